@@ -1,0 +1,4 @@
+pub mod PairSites
+pub mod Halls
+pub mod Windows
+pub mod Contact
