@@ -1,0 +1,3 @@
+pub mod PairSites
+pub mod Halls
+pub mod Windows
