@@ -1,15 +1,16 @@
 -- The computed marks are the carriers that are reached, and the lost carrier is the lowest that is not.
 use Prim.Native.Nat.{ℕ, zero, suc, _+_, _<_, _≤_}
-use mathlib.Core.Bool.{Bool, true, false, _||_, false≢true}
+use mathlib.Core.Bool.{Bool, true, false, not, _||_, false≢true}
 use mathlib.Core.List.{List, [], _∷_}
 use mathlib.Core.Logic.{_⊎_, inl, inr, ⊎-elim, _↔_}
 use mathlib.Core.Path.{_≡_, refl, sym, ap, subst, _∙_}
 use native.Mathlib.Nat.{zero-add}
 use native.Mathlib.Omega.{arith}
 use lib.ListN.{length, getD, replicate}
+use Rattle.std.specs.Options.{isSome}
 use Rattle.std.specs.declared.option.Option.the-variants.{Some, None}
 use Rattle.std.proofs.shelf.Lists.{ext-getD, getD-map, length-map, length-replicate}
-use Rattle.std.proofs.shelf.Tests.{and-from, and-parts, or-cases, or-left, or-right, both-ways}
+use Rattle.std.proofs.shelf.Tests.{and-from, and-parts, cases-lt, or-cases, or-left, or-right, both-ways}
 use Rattle.model.specs.Contact.{Reached, Connected, hears, spread, rounds, reached-marks, all-marked, is-connected, first-unmarked, lost, ContactIsComputed}
 use Rattle.model.specs.Contact.Reached.{straight, relayed}
 use Rattle.model.specs.Site.{Site}
@@ -18,7 +19,7 @@ use Rattle.model.specs.Site.{Site}
 abbrev pub Marked : List Bool → ℕ → Type 0
 Marked marks i = getD marks i false ≡ true
 
-marked-in : (marks : List Bool) (i : ℕ) → Marked marks i → i < length marks
+pub marked-in : (marks : List Bool) (i : ℕ) → Marked marks i → i < length marks
 marked-in [] i h = absurd (false≢true h)
 marked-in (m ∷ marks) zero h = omega arith
 marked-in (m ∷ marks) (suc i) h = let l = marked-in marks i h in omega arith
@@ -70,35 +71,35 @@ hears-from s (q ∷ c) [] p j l h t = absurd (false≢true h)
 hears-from s (q ∷ c) (m ∷ marks) p zero l h t = or-left _ _ (and-from _ _ h t)
 hears-from s (q ∷ c) (m ∷ marks) p (suc j) l h t = or-right _ _ (hears-from s c marks p j (omega arith) h t)
 
-no-mark : (n i : ℕ) → Marked (replicate n false) i → ⊥
+pub no-mark : (n i : ℕ) → Marked (replicate n false) i → ⊥
 no-mark zero i h = false≢true h
 no-mark (suc n) zero h = false≢true h
 no-mark (suc n) (suc i) h = no-mark n i h
 
 module _ (s : Site) (c : List ℕ) where
-  reached-in : {i : ℕ} → Reached s c i → i < length c
+  pub reached-in : {i : ℕ} → Reached s c i → i < length c
   reached-in (straight l t) = l
   reached-in (relayed r l t) = l
 
-  length-rounds : (k : ℕ) → length (rounds k s c) ≡ length c
+  pub length-rounds : (k : ℕ) → length (rounds k s c) ≡ length c
   length-rounds zero = length-replicate (length c) false
   length-rounds (suc k) = length-map c _
 
   -- One spread, at carrier i.
 
-  spread-at : (marks : List Bool) (i : ℕ) → i < length c → getD (spread s c marks) i false ≡ (s .in-contact (s .base) (getD c i 0) || hears s c marks (getD c i 0))
+  pub spread-at : (marks : List Bool) (i : ℕ) → i < length c → getD (spread s c marks) i false ≡ (s .in-contact (s .base) (getD c i 0) || hears s c marks (getD c i 0))
   spread-at marks i l = getD-map _ c i 0 false l
 
-  spread-in : (marks : List Bool) (i : ℕ) → Marked (spread s c marks) i → i < length c
+  pub spread-in : (marks : List Bool) (i : ℕ) → Marked (spread s c marks) i → i < length c
   spread-in marks i h = rw length-map at (marked-in (spread s c marks) i h)
 
-  spread-cases : (marks : List Bool) (i : ℕ) → Marked (spread s c marks) i → (s .in-contact (s .base) (getD c i 0) ≡ true) ⊎ Heard s c marks (getD c i 0)
+  pub spread-cases : (marks : List Bool) (i : ℕ) → Marked (spread s c marks) i → (s .in-contact (s .base) (getD c i 0) ≡ true) ⊎ Heard s c marks (getD c i 0)
   spread-cases marks i h = ⊎-elim inl (λ t. inr (heard s c marks _ t)) (or-cases _ _ (sym (spread-at marks i (spread-in marks i h)) ∙ h))
 
-  spread-straight : (marks : List Bool) (i : ℕ) → i < length c → s .in-contact (s .base) (getD c i 0) ≡ true → Marked (spread s c marks) i
+  pub spread-straight : (marks : List Bool) (i : ℕ) → i < length c → s .in-contact (s .base) (getD c i 0) ≡ true → Marked (spread s c marks) i
   spread-straight marks i l t = spread-at marks i l ∙ or-left _ _ t
 
-  spread-relayed : (marks : List Bool) (i j : ℕ) → i < length c → j < length c → Marked marks j → s .in-contact (getD c j 0) (getD c i 0) ≡ true → Marked (spread s c marks) i
+  pub spread-relayed : (marks : List Bool) (i j : ℕ) → i < length c → j < length c → Marked marks j → s .in-contact (getD c j 0) (getD c i 0) ≡ true → Marked (spread s c marks) i
   spread-relayed marks i j l k h t = spread-at marks i l ∙ or-right _ _ (hears-from s c marks _ j k h t)
 
   spread-all-of : (marks more : List Bool) → AllOf marks more → AllOf (spread s c marks) (spread s c more)
@@ -116,7 +117,7 @@ module _ (s : Site) (c : List ℕ) where
 
   -- No round loses a mark, and as many rounds as there are carriers come to rest.
 
-  rounds-all-of : (k : ℕ) → AllOf (rounds k s c) (rounds (suc k) s c)
+  pub rounds-all-of : (k : ℕ) → AllOf (rounds k s c) (rounds (suc k) s c)
   rounds-all-of zero i h = absurd (no-mark (length c) i h)
   rounds-all-of (suc k) i h = spread-all-of (rounds k s c) (rounds (suc k) s c) (rounds-all-of k) i h
 
@@ -127,8 +128,13 @@ module _ (s : Site) (c : List ℕ) where
   rest-or-marks zero = ⊎-elim inl (λ l. inr (omega arith)) (same-or-more zero)
   rest-or-marks (suc k) = ⊎-elim (λ e. inl (ap (spread s c) e)) (λ l. ⊎-elim inl (λ m. inr (omega arith)) (same-or-more (suc k))) (rest-or-marks k)
 
-  rounds-rest : reached-marks s c ≡ spread s c (reached-marks s c)
+  pub rounds-rest : reached-marks s c ≡ spread s c (reached-marks s c)
   rounds-rest = ⊎-elim (λ e. e) (λ l. absurd (omega (arith, count-le-length (rounds (suc (length c)) s c), length-rounds (suc (length c))))) (rest-or-marks (length c))
+
+  -- Once a round adds nothing, no later one does.
+  pub rounds-stay : (k : ℕ) → rounds (suc k) s c ≡ rounds k s c → (n : ℕ) → k ≤ n → rounds n s c ≡ rounds k s c
+  rounds-stay k e zero l = let same : 0 ≡ k = omega arith in ap (λ m. rounds m s c) same
+  rounds-stay k e (suc n) l = ⊎-elim (λ below. ap (spread s c) (rounds-stay k e n (omega arith)) ∙ e) (λ above. let same : suc n ≡ k = omega arith in ap (λ m. rounds m s c) same) (cases-lt k (suc n))
 
   -- So whoever is reached is marked.
 
@@ -138,20 +144,6 @@ module _ (s : Site) (c : List ℕ) where
 
   pub marked-iff-reached : (i : ℕ) → Marked (reached-marks s c) i ↔ Reached s c i
   marked-iff-reached i = (reached-of-round (length c) i, marked-of-reached)
-
-  -- Marks of none but reached carriers, to which one spread adds none, are the marks of all that are reached.
-
-  closed-has-all : (marks : List Bool) → AllOf (spread s c marks) marks → {i : ℕ} → Reached s c i → Marked marks i
-  closed-has-all marks closed (straight {i} l t) = closed i (spread-straight marks i l t)
-  closed-has-all marks closed (relayed {i} {j} r l t) = closed i (spread-relayed marks i j l (reached-in r) (closed-has-all marks closed r) t)
-
-  pub closed-are-reached : (marks : List Bool) → length marks ≡ length c → ((i : ℕ) → Marked marks i → Reached s c i) → AllOf (spread s c marks) marks → marks ≡ reached-marks s c
-  closed-are-reached marks same sound closed =
-      ext-getD false marks (reached-marks s c) (same ∙ sym (length-rounds (length c)))
-      (λ i l. same-tests _ _ (λ m. marked-of-reached (sound i m)) (λ m. closed-has-all marks closed (marked-iff-reached i .0 m)))
-    where
-      same-tests : (a b : Bool) → (a ≡ true → b ≡ true) → (b ≡ true → a ≡ true) → a ≡ b
-      same-tests a b to from = grind arith
 
 -- All marks, and the first that is missing.
 
@@ -191,6 +183,11 @@ none-unmarked k [] = (λ _. refl, λ _. refl)
 none-unmarked k (true ∷ marks) = none-unmarked (suc k) marks
 none-unmarked k (false ∷ marks) = (λ e. absurd (let z : _≡_ {A = ℕ} 0 1 = cc in omega arith), λ e. absurd (false≢true e))
 
+all-marked-tells : (k : ℕ) (marks : List Bool) → all-marked marks ≡ not (isSome (first-unmarked k marks))
+all-marked-tells k [] = refl
+all-marked-tells k (true ∷ marks) = all-marked-tells (suc k) marks
+all-marked-tells k (false ∷ marks) = refl
+
 -- Contact, and the lost carrier.
 
 module _ (s : Site) (c : List ℕ) where
@@ -199,6 +196,10 @@ module _ (s : Site) (c : List ℕ) where
     λ e i l. marked-iff-reached s c i .0 (all-marked-at (reached-marks s c) e i (rw length-rounds l)),
     λ r. all-marked-from (reached-marks s c) (λ i l. marked-iff-reached s c i .1 (r i (rw length-rounds at l))),
   )
+
+  -- It is in contact where nobody is lost.
+  pub connected-tells : is-connected s c ≡ not (isSome (lost s c))
+  connected-tells = all-marked-tells 1 (reached-marks s c)
 
   pub none-is-lost : (lost s c ≡ None) ↔ Connected s c
   none-is-lost =

@@ -2,3 +2,4 @@ pub mod PairSites
 pub mod Halls
 pub mod Windows
 pub mod Contact
+pub mod Chains

@@ -8,3 +8,4 @@ pub mod Hall
 pub mod Window
 -- Configurations in contact
 pub mod Contact
+pub mod Relay

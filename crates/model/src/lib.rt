@@ -2,10 +2,12 @@
 //! each theorem about them stands on a function below.
 pub mod limits;
 pub mod refusal;
+pub mod relay;
 
 ghost use Rattle.model.specs.Contact.{ContactIsComputed};
 ghost use Rattle.model.specs.Hall.{HallsAreSites};
 ghost use Rattle.model.specs.PairSite.{PairSitesAreSites};
+ghost use Rattle.model.specs.Relay.{ChainsReach};
 ghost use Rattle.model.specs.Window.{WindowsAreSites};
 
 /// Pair sites are sites, with exactly the listed pairs.
@@ -32,6 +34,13 @@ pub fn windows_are_sites() -> u8
 /// Contact as it is computed is contact as it is defined.
 pub fn contact_is_computed() -> u8
     ensures { λ _. ⌜ ContactIsComputed ⌝ }
+{
+    0
+}
+
+/// Whoever is reached has a chain of contacts from the base.
+pub fn chains_reach() -> u8
+    ensures { λ _. ⌜ ChainsReach ⌝ }
 {
     0
 }
