@@ -81,10 +81,10 @@ module _ (s : Site) (c : List ℕ) where
           let p = getD c i 0 in
           let here : marked before p ≡ getD (rounds k s c) i false = sym (known-at before i l) ∙ ap (λ marks. getD marks i false) same in
           let next : getD (rounds (suc k) s c) i false ≡ near s c before p =
-              spread-at s c (rounds k s c) i l ∙ ap (λ marks. s .in-contact (s .base) p || hears s c marks p) (sym same) ∙ ap (λ b. s .in-contact (s .base) p || b) (sym (heard-is s before c p)) in
+          spread-at s c (rounds k s c) i l ∙ ap (λ marks. s .in-contact (s .base) p || hears s c marks p) (sym same) ∙ ap (λ b. s .in-contact (s .base) p || b) (sym (heard-is s before c p)) in
           known-at after i l
           ∙ joined (marked before p) (marked after p) (near s c before p) (ltb p most-places) (round .kept p) (round .only p) (round .done i l)
-            (λ h. lt-ltb p most-places (near-is-place lawful before p h)) (λ h. sym next ∙ rounds-all-of s c k i (sym here ∙ h))
+          (λ h. lt-ltb p most-places (near-is-place lawful before p h)) (λ h. sym next ∙ rounds-all-of s c k i (sym here ∙ h))
           ∙ sym next
         where
           joined : (b a n t : Bool) → (b ≡ true → a ≡ true) → (a ≡ true → (b || (t && not b && n)) ≡ true) → ((t && not b && n) ≡ true → a ≡ true) → (n ≡ true → t ≡ true) → (b ≡ true → n ≡ true) → a ≡ n

@@ -24,7 +24,12 @@ fn is_relay<S: Site>(site: &S, marks: &[bool; MOST_PLACES], q: usize, p: usize) 
 }
 
 /// Is the place p in contact with the base, or with the marked place of a carrier?
-fn is_near<S: Site>(site: &S, configuration: &[usize], marks: &[bool; MOST_PLACES], p: usize) -> bool
+fn is_near<S: Site>(
+    site: &S,
+    configuration: &[usize],
+    marks: &[bool; MOST_PLACES],
+    p: usize,
+) -> bool
     ensures { λ r. ⌜ r ≡ near (S·Site .meaning (now (site .entry))) (now (configuration .entry)) (now (marks .entry)) p ⌝ }
 {
     if site.in_contact(site.base(), p) {
@@ -39,7 +44,12 @@ fn is_near<S: Site>(site: &S, configuration: &[usize], marks: &[bool; MOST_PLACE
 }
 
 /// Is the place p to be marked: is it near, and not marked yet?
-fn is_joining<S: Site>(site: &S, configuration: &[usize], marks: &[bool; MOST_PLACES], p: usize) -> bool
+fn is_joining<S: Site>(
+    site: &S,
+    configuration: &[usize],
+    marks: &[bool; MOST_PLACES],
+    p: usize,
+) -> bool
     ensures { λ r. ⌜ r ≡ joins (S·Site .meaning (now (site .entry))) (now (configuration .entry)) (now (marks .entry)) p ⌝ }
 {
     p < MOST_PLACES && !is_marked(marks, p) && is_near(site, configuration, marks, p)
@@ -86,7 +96,12 @@ fn first_unmarked(configuration: &[usize], marks: &[bool; MOST_PLACES]) -> Optio
 }
 
 /// The number of the first carrier whose place is marked and in contact with p.
-fn first_heard<S: Site>(site: &S, configuration: &[usize], marks: &[bool; MOST_PLACES], p: usize) -> Option<usize>
+fn first_heard<S: Site>(
+    site: &S,
+    configuration: &[usize],
+    marks: &[bool; MOST_PLACES],
+    p: usize,
+) -> Option<usize>
     ensures { λ r. ⌜ FirstHeard (S·Site .meaning (now (site .entry))) (now (configuration .entry)) (now (marks .entry)) p r ⌝ }
 {
     for (i, q) in configuration.iter().enumerate() {
@@ -104,7 +119,10 @@ pub fn is_reached<S: Site>(site: &S, configuration: &[usize], carrier: usize) ->
     if carrier < 1 || carrier > configuration.len() {
         return false;
     }
-    is_marked(&reached_places(site, configuration), configuration[carrier - 1])
+    is_marked(
+        &reached_places(site, configuration),
+        configuration[carrier - 1],
+    )
 }
 
 /// The lost carrier: the lowest-numbered one that is not reached from the base, straight or through the others.

@@ -8,10 +8,10 @@ use native.Mathlib.Nat.{zero-add}
 use native.Mathlib.Omega.{arith}
 use lib.ListN.{length, getD, replicate}
 use Rattle.std.specs.Options.{isSome}
-use Rattle.std.specs.declared.option.Option.the-variants.{Some, None}
+use Rattle.std.specs.declared.option.Option.the-variants.{Some}
 use Rattle.std.proofs.shelf.Lists.{ext-getD, getD-map, length-map, length-replicate}
-use Rattle.std.proofs.shelf.Tests.{and-from, and-parts, cases-lt, or-cases, or-left, or-right, both-ways}
-use Rattle.model.specs.Contact.{Reached, Connected, hears, spread, rounds, reached-marks, all-marked, is-connected, first-unmarked, lost, ContactIsComputed}
+use Rattle.std.proofs.shelf.Tests.{and-from, cases-lt, or-cases, or-left, or-right, both-ways}
+use Rattle.model.specs.Contact.{Reached, Connected, hears, spread, rounds, reached-marks, is-connected, first-unmarked, lost, ContactIsComputed}
 use Rattle.model.specs.Contact.Reached.{straight, relayed}
 use Rattle.model.specs.Site.{Site}
 
@@ -145,17 +145,6 @@ module _ (s : Site) (c : List ℕ) where
   pub marked-iff-reached : (i : ℕ) → Marked (reached-marks s c) i ↔ Reached s c i
   marked-iff-reached i = (reached-of-round (length c) i, marked-of-reached)
 
--- All marks, and the first that is missing.
-
-all-marked-at : (marks : List Bool) → all-marked marks ≡ true → (i : ℕ) → i < length marks → Marked marks i
-all-marked-at [] e i l = absurd (omega arith)
-all-marked-at (m ∷ marks) e zero l = and-parts m (all-marked marks) e .0
-all-marked-at (m ∷ marks) e (suc i) l = all-marked-at marks (and-parts m (all-marked marks) e .1) i (omega arith)
-
-all-marked-from : (marks : List Bool) → ((i : ℕ) → i < length marks → Marked marks i) → all-marked marks ≡ true
-all-marked-from [] h = refl
-all-marked-from (m ∷ marks) h = and-from m (all-marked marks) (h 0 (omega arith)) (all-marked-from marks (λ i l. h (suc i) (omega arith)))
-
 -- The first mark that is missing has index j.
 record FirstUnmarked (marks : List Bool) (j : ℕ) : Type 0 where
   pub inside : j < length marks
@@ -178,33 +167,27 @@ first-unmarked-is k (true ∷ marks) n e =
     let (j, at, f) = first-unmarked-is (suc k) marks n e in
     (suc j, omega arith, first-unmarked-later marks j f)
 
-none-unmarked : (k : ℕ) (marks : List Bool) → (first-unmarked k marks ≡ None) ↔ (all-marked marks ≡ true)
-none-unmarked k [] = (λ _. refl, λ _. refl)
-none-unmarked k (true ∷ marks) = none-unmarked (suc k) marks
-none-unmarked k (false ∷ marks) = (λ e. absurd (let z : _≡_ {A = ℕ} 0 1 = cc in omega arith), λ e. absurd (false≢true e))
+-- No mark is missing.
 
-all-marked-tells : (k : ℕ) (marks : List Bool) → all-marked marks ≡ not (isSome (first-unmarked k marks))
-all-marked-tells k [] = refl
-all-marked-tells k (true ∷ marks) = all-marked-tells (suc k) marks
-all-marked-tells k (false ∷ marks) = refl
+all-marked : (k : ℕ) (marks : List Bool) → not (isSome (first-unmarked k marks)) ≡ true → (i : ℕ) → i < length marks → Marked marks i
+all-marked k [] e i l = absurd (omega arith)
+all-marked k (false ∷ marks) e i l = absurd (false≢true e)
+all-marked k (true ∷ marks) e zero l = refl
+all-marked k (true ∷ marks) e (suc i) l = all-marked (suc k) marks e i (omega arith)
+
+none-unmarked : (k : ℕ) (marks : List Bool) → ((i : ℕ) → i < length marks → Marked marks i) → not (isSome (first-unmarked k marks)) ≡ true
+none-unmarked k [] h = refl
+none-unmarked k (false ∷ marks) h = absurd (false≢true (h 0 (omega arith)))
+none-unmarked k (true ∷ marks) h = none-unmarked (suc k) marks (λ i l. h (suc i) (omega arith))
 
 -- Contact, and the lost carrier.
 
 module _ (s : Site) (c : List ℕ) where
   pub connected-is-contact : (is-connected s c ≡ true) ↔ Connected s c
   connected-is-contact = (
-    λ e i l. marked-iff-reached s c i .0 (all-marked-at (reached-marks s c) e i (rw length-rounds l)),
-    λ r. all-marked-from (reached-marks s c) (λ i l. marked-iff-reached s c i .1 (r i (rw length-rounds at l))),
+    λ e i l. marked-iff-reached s c i .0 (all-marked 1 (reached-marks s c) e i (rw length-rounds l)),
+    λ r. none-unmarked 1 (reached-marks s c) (λ i l. marked-iff-reached s c i .1 (r i (rw length-rounds at l))),
   )
-
-  -- It is in contact where nobody is lost.
-  pub connected-tells : is-connected s c ≡ not (isSome (lost s c))
-  connected-tells = all-marked-tells 1 (reached-marks s c)
-
-  pub none-is-lost : (lost s c ≡ None) ↔ Connected s c
-  none-is-lost =
-      let all = none-unmarked 1 (reached-marks s c) in
-      (λ e. connected-is-contact .0 (all .0 e), λ r. all .1 (connected-is-contact .1 r))
 
   pub lost-is-lowest : (k : ℕ) → lost s c ≡ Some k → (i : ℕ) × (k ≡ suc i) × (i < length c) × (Reached s c i → ⊥) × ((j : ℕ) → j < i → Reached s c j)
   lost-is-lowest k e =
@@ -217,9 +200,4 @@ module _ (s : Site) (c : List ℕ) where
       )
 
 pub contact-is-computed : ContactIsComputed
-contact-is-computed = record {
-  marked-are-reached = marked-iff-reached;
-  connected-is-contact = connected-is-contact;
-  none-is-lost = none-is-lost;
-  lost-is-lowest = lost-is-lowest;
-}
+contact-is-computed = record { marked-are-reached = marked-iff-reached; connected-is-contact = connected-is-contact; lost-is-lowest = lost-is-lowest }

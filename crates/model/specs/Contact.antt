@@ -1,11 +1,12 @@
 -- Contact of a configuration: the list of the carriers' places, that of carrier 1 first. Carriers (agents) are numbered from 1,
 -- and indices of the list count from 0, so that carrier i + 1 has index i.
 use Prim.Native.Nat.{ℕ, zero, suc, _<_, _≤_}
-use mathlib.Core.Bool.{Bool, true, false, _&&_, _||_}
+use mathlib.Core.Bool.{Bool, true, false, not, _&&_, _||_}
 use mathlib.Core.List.{List, [], _∷_, map}
 use mathlib.Core.Logic.{_↔_}
 use mathlib.Core.Path.{_≡_}
 use lib.ListN.{length, getD, replicate}
+use Rattle.std.specs.Options.{isSome}
 use Rattle.std.specs.declared.option.Option.{Option}
 use Rattle.std.specs.declared.option.Option.the-variants.{Some, None}
 use Rattle.model.specs.Site.{Site}
@@ -46,15 +47,6 @@ abbrev pub is-reached : Site → List ℕ → ℕ → Bool
 is-reached s c zero = false
 is-reached s c (suc i) = getD (reached-marks s c) i false
 
--- Every mark is set.
-abbrev pub all-marked : List Bool → Bool
-all-marked [] = true
-all-marked (m ∷ marks) = m && all-marked marks
-
--- The configuration is in contact.
-abbrev pub is-connected : Site → List ℕ → Bool
-is-connected s c = all-marked (reached-marks s c)
-
 -- The number of the first that is not marked, where the first of all has the number k.
 abbrev pub first-unmarked : ℕ → List Bool → Option ℕ
 first-unmarked k [] = None
@@ -65,13 +57,16 @@ first-unmarked k (false ∷ marks) = Some k
 abbrev pub lost : Site → List ℕ → Option ℕ
 lost s c = first-unmarked 1 (reached-marks s c)
 
+-- The configuration is in contact: nobody is lost.
+abbrev pub is-connected : Site → List ℕ → Bool
+is-connected s c = not (isSome (lost s c))
+
 -- What is computed is contact.
 pub record ContactIsComputed : Type 0 where
   -- The carriers that are computed as reached are those that are reached.
   pub marked-are-reached : (s : Site) (c : List ℕ) (i : ℕ) → (is-reached s c (suc i) ≡ true) ↔ Reached s c i
-  -- A configuration is computed to be in contact, and no carrier is lost, exactly if it is in contact.
+  -- A configuration is computed to be in contact exactly if it is.
   pub connected-is-contact : (s : Site) (c : List ℕ) → (is-connected s c ≡ true) ↔ Connected s c
-  pub none-is-lost : (s : Site) (c : List ℕ) → (lost s c ≡ None) ↔ Connected s c
   -- The lost carrier is not reached, and every lower-numbered one is.
   pub lost-is-lowest : (s : Site) (c : List ℕ) (k : ℕ) → lost s c ≡ Some k
       → (i : ℕ) × (k ≡ suc i) × (i < length c) × (Reached s c i → ⊥) × ((j : ℕ) → j < i → Reached s c j)

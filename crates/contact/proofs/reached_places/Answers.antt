@@ -16,6 +16,6 @@ pub loop-round-again : need.loop-round-again
 loop-round-again g c =
     let site = c .args .site .now in (
       round-more (g .S·Site .meaning site) (c .args .configuration .now) (g .S·Site .lawful site) (c .loop-round .marks) (c .spread .last .marks) (c .spread .result)
-      (c .spread .ensures) (c .loop-round .-round) (c .loop-round .inv .0),
+          (c .spread .ensures) (c .loop-round .-round) (c .loop-round .inv .0),
       c .spread .array-long,
     )
