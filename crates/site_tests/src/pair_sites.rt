@@ -1,6 +1,7 @@
 //! Pair sites.
 use model::refusal::Refusal;
 use model::refusal::RefusalDebug;
+use model::refusal::RefusalDisplay;
 use model::refusal::RefusalPartialEq;
 use site::PairSite;
 use site::PairSiteSite;
