@@ -1,22 +1,21 @@
 -- Marks on places, and how they spread.
 use Prim.Native.Nat.{ℕ, zero, suc, _+_, _-_, _<_, _≤_}
 use mathlib.Core.Bool.{Bool, true, false, not, _&&_, _||_, false≢true}
-use mathlib.Core.List.{List, [], _∷_, map}
+use mathlib.Core.List.{List, [], _∷_}
 use mathlib.Core.Logic.{_⊎_, ⊎-elim}
-use mathlib.Core.Path.{_≡_, refl, sym, ap, subst, _∙_}
+use mathlib.Core.Path.{_≡_, refl, sym, ap, _∙_}
 use native.Mathlib.Numerals.{add-one}
 use native.Mathlib.Omega.{arith}
 use lib.Dec.{ltb}
-use lib.ListN.{length, drop, getD, set, replicate}
+use lib.ListN.{length, drop, getD, replicate}
 use Rattle.std.specs.declared.option.Option.the-variants.{Some}
 use Rattle.std.proofs.shelf.Lists.{at-drop-more, ext-getD, getD-map, getD-past, getD-replicate, length-map, length-replicate}
-use Rattle.std.proofs.shelf.Tests.{and-parts, cases-eq, cases-lt, lt-ltb, or-cases, or-from, or-left, or-right, both-ways}
-use Rattle.std.proofs.shelf.Ways.{tells}
+use Rattle.std.proofs.shelf.Tests.{and-parts, cases-lt, lt-ltb, or-cases, or-from}
 use Rattle.model.specs.Limits.{most-places}
 use Rattle.model.specs.Site.{Site, Lawful}
-use Rattle.model.specs.Contact.{hears, spread, rounds, reached-marks, is-reached, first-unmarked}
+use Rattle.model.specs.Contact.{hears, rounds, reached-marks, is-reached, first-unmarked}
 use Rattle.model.proofs.Contact.{length-rounds, spread-at, rounds-all-of, rounds-stay}
-use Rattle.contact.specs.Spreading.{marked, known, relays, heard, near, joins, Pass, Round}
+use Rattle.contact.specs.Spreading.{marked, known, relays, heard, near, Round}
 
 -- The loops: what is left of the configuration, one carrier on.
 

@@ -1,6 +1,6 @@
 -- The last relay of a carrier.
 use Prim.Native.Nat.{ℕ, zero, suc, _-_, _<_, _≤_}
-use mathlib.Core.Bool.{Bool, true, false, _&&_, _||_}
+use mathlib.Core.Bool.{Bool, true, false}
 use mathlib.Core.List.{List}
 use mathlib.Core.Logic.{_⊎_, ⊎-elim}
 use mathlib.Core.Path.{_≡_, refl, sym, ap, subst, _∙_}
@@ -17,7 +17,7 @@ use Rattle.model.specs.Contact.{Reached, hears, rounds, reached-marks}
 use Rattle.model.specs.Relay.{Chain, LastRelay, RelayedBy, RelayOf}
 use Rattle.model.proofs.Contact.{Marked, reached-in, spread-at, rounds-rest, marked-iff-reached}
 use Rattle.model.proofs.Chains.{chain-in, chain-of-round, round-of-chain}
-use Rattle.contact.specs.Spreading.{marked, known, relays, heard, FirstHeard}
+use Rattle.contact.specs.Spreading.{marked, known, heard, FirstHeard}
 use Rattle.contact.proofs.Marks.{heard-is, not-heard, no-mark, known-at}
 
 -- Before the first round nobody is heard.

@@ -1,5 +1,4 @@
 //! Walking a plan: a configuration for each moment.
-ghost use mathlib.Core.Path.{_≡_};
 ghost use Rattle.inspect.specs.Breaks.{FirstBreak};
 use contact::is_connected;
 use contact::lost_carrier;

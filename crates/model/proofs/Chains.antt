@@ -1,11 +1,9 @@
 -- Chains of contacts, and the rounds in which carriers are marked.
 use Prim.Native.Nat.{ℕ, zero, suc, _<_, _≤_}
-use mathlib.Core.Bool.{true}
 use mathlib.Core.List.{List}
-use mathlib.Core.Logic.{⊎-elim, _↔_}
-use mathlib.Core.Path.{_≡_}
+use mathlib.Core.Logic.{⊎-elim}
 use native.Mathlib.Omega.{arith}
-use lib.ListN.{length, getD}
+use lib.ListN.{length}
 use Rattle.model.specs.Site.{Site}
 use Rattle.model.specs.Contact.{Reached, rounds}
 use Rattle.model.specs.Contact.Reached.{straight as reached-straight, relayed as reached-relayed}

@@ -3,13 +3,12 @@ use Prim.Native.Nat.{ℕ, zero, suc, _+_, _<_, _≤_}
 use mathlib.Core.Bool.{Bool, true, false, not, _||_, false≢true}
 use mathlib.Core.List.{List, [], _∷_}
 use mathlib.Core.Logic.{_⊎_, inl, inr, ⊎-elim, _↔_}
-use mathlib.Core.Path.{_≡_, refl, sym, ap, subst, _∙_}
-use native.Mathlib.Nat.{zero-add}
+use mathlib.Core.Path.{_≡_, refl, sym, ap, _∙_}
 use native.Mathlib.Omega.{arith}
 use lib.ListN.{length, getD, replicate}
 use Rattle.std.specs.Options.{isSome}
 use Rattle.std.specs.declared.option.Option.the-variants.{Some}
-use Rattle.std.proofs.shelf.Lists.{ext-getD, getD-map, length-map, length-replicate}
+use Rattle.std.proofs.shelf.Lists.{getD-map, length-map, length-replicate}
 use Rattle.std.proofs.shelf.Tests.{and-from, cases-lt, or-cases, or-left, or-right, both-ways}
 use Rattle.model.specs.Contact.{Reached, Connected, hears, spread, rounds, reached-marks, is-connected, first-unmarked, lost, ContactIsComputed}
 use Rattle.model.specs.Contact.Reached.{straight, relayed}

@@ -1,16 +1,15 @@
 -- Halls are lawful, and their moves and contacts are those of a grid.
-use Prim.Native.Nat.{ℕ, _+_, _*_, _/_, _%_, _<_, _≤_}
+use Prim.Native.Nat.{ℕ, _+_, _*_, _<_, _≤_}
 use mathlib.Core.Bool.{Bool, true, not, _&&_}
 use mathlib.Core.Logic.{_↔_}
-use mathlib.Core.Path.{_≡_, refl, ap, sym, _∙_}
+use mathlib.Core.Path.{_≡_, sym, _∙_}
 use native.Mathlib.Nat.{add-comm}
 use native.Mathlib.Omega.{arith}
 use lib.Dec.{leb, ltb}
 use Rattle.std.proofs.shelf.Bits.{div-mul-add, mod-mul-add, div-add-mod', mul-add-lt}
 use Rattle.std.proofs.shelf.Tests.{and-parts, and-from, ltb-true, lt-ltb, le-leb, leb-true}
-use Rattle.std.proofs.shelf.Ways.{tells}
 use Rattle.model.specs.Limits.{most-places}
-use Rattle.model.specs.Site.{Site, Lawful}
+use Rattle.model.specs.Site.{Lawful}
 use Rattle.model.specs.Hall.{Grid, cells, cell, row-of, column-of, apart, rows-apart, columns-apart, beside, within, hall-site, HallsAreSites}
 
 apart-both-ways : (a b : ℕ) → apart a b ≡ apart b a

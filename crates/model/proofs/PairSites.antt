@@ -1,16 +1,16 @@
 -- Pair sites are lawful, and have exactly the listed pairs.
 use Prim.Native.Nat.{ℕ, _<_, _≤_}
-use mathlib.Core.Bool.{Bool, true, false, _&&_, _||_, false≢true}
+use mathlib.Core.Bool.{true, false, _&&_, _||_, false≢true}
 use mathlib.Core.List.{List, [], _∷_, List·Memᴰ, List·Memᴰ·not-nil, List·Memᴰ·cases-cons}
 use mathlib.Core.List.List·Memᴰ.{List·Memᴰ·head, List·Memᴰ·tail}
 use mathlib.Core.Logic.{_⊎_, inl, inr, ⊎-elim, _↔_}
 use mathlib.Core.Path.{_≡_, refl, ap}
 use native.Mathlib.Omega.{arith}
-use lib.Dec.{eqb, ltb}
+use lib.Dec.{eqb}
 use Rattle.std.proofs.shelf.Tests.{and-parts, and-from, or-cases, or-left, or-right, eqb-true, eq-eqb}
 use Rattle.std.proofs.shelf.Ways.{tells}
 use Rattle.model.specs.Limits.{most-places}
-use Rattle.model.specs.Site.{Site, Lawful}
+use Rattle.model.specs.Site.{Lawful}
 use Rattle.model.specs.PairSite.{Pairs, with-pair, listed, Network, joined, pair-site, BothWays, PairSitesAreSites}
 
 joined-both-ways : (n : ℕ) (pairs : Pairs) → BothWays pairs → (p q : ℕ) → joined n pairs p q ≡ joined n pairs q p

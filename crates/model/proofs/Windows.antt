@@ -1,9 +1,6 @@
 -- A window over a lawful site is lawful.
-use mathlib.Core.Bool.{true, _&&_}
-use mathlib.Core.Path.{_≡_}
 use Rattle.std.proofs.shelf.Tests.{and-parts}
-use Rattle.model.specs.Site.{Site, Lawful}
-use Rattle.model.specs.Window.{Readings, mild, window, WindowsAreSites}
+use Rattle.model.specs.Window.{mild, WindowsAreSites}
 
 pub windows-are-sites : WindowsAreSites
 windows-are-sites readings s lawful = record {

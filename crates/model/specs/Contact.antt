@@ -1,6 +1,6 @@
 -- Contact of a configuration: the list of the carriers' places, that of carrier 1 first. Carriers (agents) are numbered from 1,
 -- and indices of the list count from 0, so that carrier i + 1 has index i.
-use Prim.Native.Nat.{ℕ, zero, suc, _<_, _≤_}
+use Prim.Native.Nat.{ℕ, zero, suc, _<_}
 use mathlib.Core.Bool.{Bool, true, false, not, _&&_, _||_}
 use mathlib.Core.List.{List, [], _∷_, map}
 use mathlib.Core.Logic.{_↔_}

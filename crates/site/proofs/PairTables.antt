@@ -1,9 +1,9 @@
 -- A table of pairs, and how it changes.
-use Prim.Native.Nat.{ℕ, _+_, _*_, _<_, min, max}
+use Prim.Native.Nat.{ℕ, _<_, min, max}
 use mathlib.Core.Bool.{Bool, true, false, _&&_, _||_}
 use mathlib.Core.List.{List}
 use mathlib.Core.Logic.{_⊎_, inl, inr, ⊎-elim}
-use mathlib.Core.Path.{_≡_, sym, _∙_}
+use mathlib.Core.Path.{_≡_}
 use native.Mathlib.Omega.{arith}
 use lib.Dec.{eqb, ltb}
 use lib.ListN.{length, getD, set, replicate}

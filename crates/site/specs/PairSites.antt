@@ -1,6 +1,6 @@
 -- What a pair site means: the network that its tables list.
 use Prim.Native.Nat.{ℕ, _+_, _*_, min, max}
-use mathlib.Core.Bool.{Bool, true, false, _&&_}
+use mathlib.Core.Bool.{true, false, _&&_}
 use mathlib.Core.Path.{_≡_}
 use native.Mathlib.Nat.{min-comm, max-comm}
 use lib.Dec.{ltb}

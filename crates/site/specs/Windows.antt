@@ -1,5 +1,4 @@
 -- What a window means, given what the site below it means.
-use Prim.Native.Nat.{ℕ}
 use lib.ListN.{getD}
 use Rattle.std.specs.declared.option.Option.the-variants.{None}
 use Rattle.model.specs.Site.{Site, Lawful}

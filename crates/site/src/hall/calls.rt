@@ -3,7 +3,7 @@ ghost use mathlib.Core.Bool.{cond};
 ghost use mathlib.Core.Path.{_≡_};
 ghost use Prim.Native.Nat.{_*_, _<_, _≤_};
 ghost use Rattle.std.specs.Results.{isOk};
-ghost use Rattle.model.specs.Hall.{beside, cells, hall-site, wall-answer, with-wall, within};
+ghost use Rattle.model.specs.Hall.{beside, cells, wall-answer, with-wall, within};
 ghost use Rattle.model.specs.Limits.{most-places};
 ghost use Rattle.site.specs.Halls.{Made, grid, hall-lawful, hall-meaning};
 use crate::Site;

@@ -2,10 +2,9 @@
 ghost use mathlib.Core.Bool.{cond, _||_};
 ghost use mathlib.Core.Path.{_≡_};
 ghost use Prim.Native.Nat.{_<_, _≤_, max};
-ghost use lib.Dec.{eqb};
 ghost use Rattle.std.specs.Results.{isOk};
 ghost use Rattle.model.specs.Limits.{most-places};
-ghost use Rattle.model.specs.PairSite.{joined, no-pairs, pair-answer, pair-site, with-contact, with-move, with-pair};
+ghost use Rattle.model.specs.PairSite.{joined, no-pairs, pair-answer, with-contact, with-move, with-pair};
 ghost use Rattle.site.specs.PairSites.{Made, network, pair-meaning, pair-lawful, pairs-of, spot-of, spots};
 use crate::Site;
 use crate::pair_site::PairSite;

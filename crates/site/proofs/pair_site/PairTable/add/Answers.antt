@@ -1,10 +1,8 @@
-use Prim.Native.Nat.{_<_, max}
 use mathlib.Core.Bool.{true}
 use mathlib.Core.Path.{ap, _∙_}
 use native.Mathlib.Omega.{arith}
 use lib.ListN.{set}
 use Rattle.std.proofs.shelf.Ways.{tells}
-use Rattle.model.specs.Limits.{most-places}
 use Rattle.site.proofs.PairTables.{marked, one-more}
 use Rattle.site.proofs.pair_site.PairTable.add.Needs as need
 
