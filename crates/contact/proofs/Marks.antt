@@ -10,10 +10,11 @@ use lib.Dec.{ltb}
 use lib.ListN.{length, drop, getD, replicate}
 use Rattle.std.specs.declared.option.Option.the-variants.{Some}
 use Rattle.std.proofs.shelf.Lists.{at-drop-more, ext-getD, getD-map, getD-past, getD-replicate, length-map, length-replicate}
-use Rattle.std.proofs.shelf.Tests.{and-parts, cases-lt, lt-ltb, or-cases, or-from}
+use Rattle.std.proofs.shelf.Tests.{and-parts, lt-ltb, or-cases, or-from}
 use Rattle.model.specs.Limits.{most-places}
 use Rattle.model.specs.Site.{Site, Lawful}
 use Rattle.model.specs.Contact.{hears, rounds, reached-marks, is-reached, first-unmarked}
+use Rattle.model.proofs.Tables.{same-everywhere}
 use Rattle.model.proofs.Contact.{length-rounds, spread-at, rounds-all-of, rounds-stay}
 use Rattle.contact.specs.Spreading.{marked, known, relays, heard, near, Round}
 
@@ -50,9 +51,6 @@ heard-is s marks (q ∷ c) p = ap (λ b. relays s marks q p || b) (heard-is s ma
 pub not-heard : (s : Site) (marks : List Bool) (c : List ℕ) (p : ℕ) → ((i : ℕ) → i < length c → relays s marks (getD c i 0) p ≡ false) → heard s marks c p ≡ false
 not-heard s marks [] p h = refl
 not-heard s marks (q ∷ c) p h = or-from _ _ (h 0 (omega arith)) (not-heard s marks c p (λ i l. h (suc i) (omega arith)))
-
-pub no-mark : (n p : ℕ) → marked (replicate n false) p ≡ false
-no-mark n p = ⊎-elim (λ l. getD-replicate n p false false l) (λ l. getD-past (replicate n false) p false (rw length-replicate l)) (cases-lt p n)
 
 module _ (s : Site) (c : List ℕ) where
   -- What is near is a place.
@@ -103,7 +101,7 @@ module _ (s : Site) (c : List ℕ) where
   -- No mark is no round.
   pub no-round : known (replicate most-places false) c ≡ rounds 0 s c
   no-round = ext-getD false (known (replicate most-places false) c) (rounds 0 s c) (length-map c _ ∙ sym (length-replicate (length c) false))
-      (λ i l. let inside = rw length-map at l in known-at (replicate most-places false) i inside ∙ no-mark most-places (getD c i 0) ∙ sym (getD-replicate (length c) i false false inside))
+      (λ i l. let inside = rw length-map at l in known-at (replicate most-places false) i inside ∙ same-everywhere most-places false (getD c i 0) ∙ sym (getD-replicate (length c) i false false inside))
 
   -- By carriers' numbers.
 

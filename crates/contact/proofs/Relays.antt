@@ -15,14 +15,15 @@ use Rattle.model.specs.Limits.{most-places}
 use Rattle.model.specs.Site.{Site}
 use Rattle.model.specs.Contact.{Reached, hears, rounds, reached-marks}
 use Rattle.model.specs.Relay.{Chain, LastRelay, RelayedBy, RelayOf}
+use Rattle.model.proofs.Tables.{same-everywhere}
 use Rattle.model.proofs.Contact.{Marked, reached-in, spread-at, rounds-rest, marked-iff-reached}
 use Rattle.model.proofs.Chains.{chain-in, chain-of-round, round-of-chain}
 use Rattle.contact.specs.Spreading.{marked, known, heard, FirstHeard}
-use Rattle.contact.proofs.Marks.{heard-is, not-heard, no-mark, known-at}
+use Rattle.contact.proofs.Marks.{heard-is, not-heard, known-at}
 
 -- Before the first round nobody is heard.
 pub nobody-heard : (s : Site) (c : List ℕ) (p : ℕ) → heard s (replicate most-places false) c p ≡ false
-nobody-heard s c p = not-heard s (replicate most-places false) c p (λ i l. and-left _ _ (no-mark most-places (getD c i 0)))
+nobody-heard s c p = not-heard s (replicate most-places false) c p (λ i l. and-left _ _ (same-everywhere most-places false (getD c i 0)))
 
 -- A place that is asked of the base, and is not in contact.
 pub not-straight : (s : Site) (base p : ℕ) → base ≡ s .base → false ≡ s .in-contact base p → s .in-contact (s .base) p ≡ false

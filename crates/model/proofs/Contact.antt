@@ -13,12 +13,13 @@ use Rattle.std.proofs.shelf.Tests.{and-from, cases-lt, or-cases, or-left, or-ri
 use Rattle.model.specs.Contact.{Reached, Connected, hears, spread, rounds, reached-marks, is-connected, first-unmarked, lost, ContactIsComputed}
 use Rattle.model.specs.Contact.Reached.{straight, relayed}
 use Rattle.model.specs.Site.{Site}
+use Rattle.model.proofs.Tables.{same-everywhere}
 
 -- The carrier at index i is marked.
 abbrev pub Marked : List Bool → ℕ → Type 0
 Marked marks i = getD marks i false ≡ true
 
-pub marked-in : (marks : List Bool) (i : ℕ) → Marked marks i → i < length marks
+marked-in : (marks : List Bool) (i : ℕ) → Marked marks i → i < length marks
 marked-in [] i h = absurd (false≢true h)
 marked-in (m ∷ marks) zero h = omega arith
 marked-in (m ∷ marks) (suc i) h = let l = marked-in marks i h in omega arith
@@ -71,9 +72,7 @@ hears-from s (q ∷ c) (m ∷ marks) p zero l h t = or-left _ _ (and-from _ _ h 
 hears-from s (q ∷ c) (m ∷ marks) p (suc j) l h t = or-right _ _ (hears-from s c marks p j (omega arith) h t)
 
 pub no-mark : (n i : ℕ) → Marked (replicate n false) i → ⊥
-no-mark zero i h = false≢true h
-no-mark (suc n) zero h = false≢true h
-no-mark (suc n) (suc i) h = no-mark n i h
+no-mark n i h = both-ways _ (same-everywhere n false i) h
 
 module _ (s : Site) (c : List ℕ) where
   pub reached-in : {i : ℕ} → Reached s c i → i < length c

@@ -1,3 +1,4 @@
+pub mod Tables
 pub mod PairSites
 pub mod Halls
 pub mod Windows

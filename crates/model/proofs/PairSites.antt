@@ -30,7 +30,7 @@ pair-site-lawful w few is-place moves-both contacts-both = record {
 }
 
 -- One pair more holds both ways round.
-pub with-pair-both-ways : (p q : ℕ) (pairs : Pairs) → BothWays pairs → BothWays (with-pair p q pairs)
+with-pair-both-ways : (p q : ℕ) (pairs : Pairs) → BothWays pairs → BothWays (with-pair p q pairs)
 with-pair-both-ways p q pairs both a b = let e = both a b in grind arith
 
 listed-both-ways : (list : List (ℕ × ℕ)) → BothWays (listed list)

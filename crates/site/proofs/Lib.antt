@@ -1,3 +1,2 @@
-mod Tables
 mod PairTables
 mod Readings

@@ -13,7 +13,7 @@ use Rattle.std.proofs.shelf.Ways.{tells}
 use Rattle.model.specs.Limits.{most-places}
 use Rattle.model.specs.PairSite.{Pairs, no-pairs, with-pair}
 use Rattle.site.specs.PairSites.{spot-of, spots}
-use Rattle.site.proofs.Tables.{same-everywhere}
+use Rattle.model.proofs.Tables.{same-everywhere}
 
 -- The pairs that a list of marks stands for.
 abbrev pub marked : List Bool → Pairs

@@ -7,7 +7,7 @@ use lib.ListN.{length, getD, set}
 use Rattle.std.specs.declared.option.Option.{Option}
 use Rattle.std.specs.declared.option.Option.the-variants.{Some, None}
 use Rattle.model.specs.Window.{Readings, with-reading}
-use Rattle.site.proofs.Tables.{written}
+use Rattle.model.proofs.Tables.{written}
 
 -- The readings of a list.
 abbrev readings-in : List (Option ℤ) → Readings

@@ -1,7 +1,7 @@
 use mathlib.Core.Bool.{true, false}
 use native.Mathlib.Omega.{arith}
 use Rattle.std.proofs.shelf.Ways.{tells}
-use Rattle.site.proofs.Tables.{written}
+use Rattle.model.proofs.Tables.{written}
 use Rattle.site.proofs.hall.Hall.add_wall.Needs as need
 
 pub returns : need.returns

@@ -2,7 +2,7 @@ use mathlib.Core.Bool.{false}
 use native.Mathlib.Omega.{arith}
 use Rattle.std.proofs.shelf.Ways.{tells}
 use Rattle.model.specs.Limits.{most-places}
-use Rattle.site.proofs.Tables.{same-everywhere}
+use Rattle.model.proofs.Tables.{same-everywhere}
 use Rattle.site.proofs.hall.Hall.new.Needs as need
 
 pub returns : need.returns

@@ -1,7 +1,7 @@
 use mathlib.Core.Path.{refl}
 use Rattle.std.specs.declared.option.Option.the-variants.{None}
 use Rattle.model.specs.Limits.{most-places}
-use Rattle.site.proofs.Tables.{same-everywhere}
+use Rattle.model.proofs.Tables.{same-everywhere}
 use Rattle.site.proofs.window.Window.new.Needs as need
 
 pub returns : need.returns
