@@ -10,6 +10,7 @@ use site::PairSite;
 use site::PairSiteSite;
 use site::Site;
 use site::Window;
+use site::WindowSite;
 
 /// Six places: the base apart, and two galleries of places 1 to 3 and 4 to 5.
 fn six_places() -> Result<PairSite, Refusal>
@@ -51,8 +52,8 @@ pub fn hall() -> Result<Hall, Refusal>
 }
 
 /// A reading of 18.5 degrees at every place.
-pub fn warm<S: Site>(window: &mut Window<S>, places: usize) -> Result<(), Refusal> {
-    for place in 0..places {
+pub fn warm<S: Site>(window: &mut Window<S>) -> Result<(), Refusal> {
+    for place in 0..window.places() {
         window.set(place, 185)?;
     }
     Ok(())

@@ -23,7 +23,7 @@ fn main(rt: LibcRuntime) -> Result<(), AnyError> {
 
     let hall = examples::hall()?;
     let mut window = Window::new(&hall);
-    examples::warm(&mut window, 18)?;
+    examples::warm(&mut window)?;
     println!(
         rt,
         "A hall of 3 rows and 6 columns, carrier 1 to the far end, carriers 2 and 3 as relays:"
