@@ -1,5 +1,7 @@
 //! Contact of a configuration: a slice of places, that of carrier 1 first. Who is reached from the base, straight or through the
 //! others, who is lost, and through whom a carrier is reached. Nothing here allocates.
+#![tactic(auto)]
+
 ghost use Rattle.std.specs.Prelude.{◌≡◌, ◌&&◌};
 ghost use Rattle.model.specs.Contact.{first_unmarked, is_connected, is_reached, lost, reached_marks};
 ghost use Rattle.model.specs.Relay.{RelayOf};

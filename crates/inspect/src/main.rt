@@ -1,5 +1,7 @@
 //! Walks plans through two example sites, moment by moment: where each carrier stands, through whom it is reached from the base,
 //! whether the configuration is in contact, and who is lost.
+#![tactic(auto)]
+
 mod examples;
 mod walk;
 

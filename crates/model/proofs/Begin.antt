@@ -29,7 +29,7 @@ module _ (p : Problem) (lawful : Lawful p.site) (pairs : List Pair) (room : ℕ)
   nothing_yet fits = record {
     crew = fits.goal_for_each;
     family = λ j h. absurd (omega arith);
-    opened = λ a h. absurd (Memᴰ.not_nil (subst (Memᴰ a) none_open h));
+    opened = λ a h. absurd (Memᴰ.not-nil (subst (Memᴰ a) none_open h));
     ordered = subst InOrder (sym none_open) tt;
     counted = omega (arith, fits.list_is_empty);
     few = omega arith;
@@ -44,7 +44,7 @@ module _ (p : Problem) (lawful : Lawful p.site) (pairs : List Pair) (room : ℕ)
       none_open = nil_from_length pairs fits.list_is_empty
 
   keeps_nothing : (q : Timely p) → Kept q []
-  keeps_nothing q c h = absurd (Memᴰ.not_nil h)
+  keeps_nothing q c h = absurd (Memᴰ.not-nil h)
 
   rooted : Fit p.site p.task (length pairs) room → (r : Option (List TimedPath)) → execution p.site p.task [] ≡ r → Good p (with_root r new_state)
   rooted fits None e = still_running refl (fewer_left (nothing_yet fits) (λ q _. let has = kept_has_execution p lawful q [] (keeps_nothing q) in never_none has.0 (sym e ∙ has.1)))

@@ -55,7 +55,7 @@ put_is_there a [] = Memᴰ.head refl
 put_is_there a (b ∷ bs) = at_its_place (λ l. Memᴰ a l) a b bs (λ _. Memᴰ.head refl) (λ _. Memᴰ.tail (put_is_there a bs))
 
 pub others_stay : (a x : Pair) (bs : List Pair) → Memᴰ x bs → Memᴰ x (insert a bs)
-others_stay a x [] h = absurd (Memᴰ.not_nil h)
+others_stay a x [] h = absurd (Memᴰ.not-nil h)
 others_stay a x (b ∷ bs) h = at_its_place (λ l. Memᴰ x l) a b bs (λ _. Memᴰ.tail h) (λ _. behind (Memᴰ.cases_cons h) (λ t. others_stay a x bs t))
   where
     behind : (x ≡ b) ⊎ Memᴰ x bs → (Memᴰ x bs → Memᴰ x (insert a bs)) → Memᴰ x (b ∷ insert a bs)
@@ -77,7 +77,7 @@ put_or_there a x (b ∷ bs) h = at_its_place (λ l. Memᴰ x l → (x ≡ a) ⊎
     behind later _ t = ⊎_elim (λ e. inr (Memᴰ.head e)) (λ u. deeper (later u)) (Memᴰ.cases_cons t)
 
 pub insert_in_order : (a : Pair) (bs : List Pair) → InOrder bs → InOrder (insert a bs)
-insert_in_order a [] o = ((λ b h. absurd (Memᴰ.not_nil h)), tt)
+insert_in_order a [] o = ((λ b h. absurd (Memᴰ.not-nil h)), tt)
 insert_in_order a (b ∷ bs) o = at_its_place InOrder a b bs (λ e. (before e, o)) (λ e. (behind e, insert_in_order a bs o.1))
   where
     before : precedes a b ≡ true → (x : Pair) → Memᴰ x (b ∷ bs) → Before a x

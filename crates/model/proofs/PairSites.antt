@@ -56,7 +56,7 @@ in_list ((a, b) ∷ list) p q e = ⊎_elim (stands_first a b list p q) (λ t. st
 
 -- A pair that stands in the list is listed.
 is_listed : (list : List (ℕ × ℕ)) (p q : ℕ) → Memᴰ (p, q) list → listed list p q ≡ true
-is_listed [] p q m = absurd (Memᴰ.not_nil m)
+is_listed [] p q m = absurd (Memᴰ.not-nil m)
 is_listed ((a, b) ∷ list) p q m = ⊎_elim here (λ later. or_right _ _ (is_listed list p q later)) (Memᴰ.cases_cons m)
   where
     here : ◌≡◌ {A = ℕ × ℕ} (p, q) (a, b) → listed ((a, b) ∷ list) p q ≡ true

@@ -106,7 +106,7 @@ module _ (p : Problem) (i : ℕ) (cs : List Condition) (m : ℕ) (c : List ℕ) 
         }
 
     pub split_good : (its : List Item) (st : State) → Splitting its st → Good p (split p i cs m c its st)
-    split_good [] st s = still_running s.still (fewer_left s.ready (λ q w. Memᴰ.not_nil w.1.among))
+    split_good [] st s = still_running s.still (fewer_left s.ready (λ q w. Memᴰ.not-nil w.1.among))
     split_good (it ∷ its) st s =
         subst (λ o. Good p (cond (is_full o) st (split p i cs m c its (cond (p.rule p.site c it) (add_child i (at_time m it) (execution p.site p.task (under it)) st) st)))) (sym s.still)
         (cond_both (p.rule p.site c it) (add_child i (at_time m it) (execution p.site p.task (under it)) st) st (λ u. Good p (split p i cs m c its u))

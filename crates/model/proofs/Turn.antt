@@ -31,7 +31,7 @@ exhausted_good : (p : Problem) (st : State) → st.pairs ≡ [] → Ready p None
 exhausted_good p st empty r = record { floor_holds = below_all p (suc p.task.horizon) (omega arith) (λ q. absurd (nobody q)); standing = refl; each_put = omega (arith, r.counted) }
   where
     nobody : Timely p → ⊥
-    nobody q = ⊎_elim (λ (c : Covered p st q). Memᴰ.not_nil (subst (Memᴰ c.pair) empty c.among)) (λ left. left) (r.covers q)
+    nobody q = ⊎_elim (λ (c : Covered p st q). Memᴰ.not-nil (subst (Memᴰ c.pair) empty c.among)) (λ left. left) (r.covers q)
 
 -- A pair is taken: the search is found, or the pair's node is split.
 module _ (p : Problem) (lawful : Lawful p.site) (laws : RuleLaws p.rule)

@@ -1,5 +1,7 @@
 //! What everything means: the definitions are in `specs/`, the plain types that code shares with them in the modules here, and
 //! each theorem about them stands on a function below.
+#![tactic(auto)]
+
 pub mod call;
 pub mod item;
 pub mod limits;

@@ -1,4 +1,6 @@
 //! Sites: the trait by which they are asked, and the three kinds, pair sites, halls and windows.
+#![tactic(auto)]
+
 pub mod hall;
 pub mod pair_site;
 pub mod window;

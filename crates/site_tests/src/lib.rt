@@ -1,4 +1,5 @@
 //! Examples at the edges of sites and contact, proved to be safe and then run.
+#![tactic(auto)]
 
 #[cfg(test)]
 mod contacts;
