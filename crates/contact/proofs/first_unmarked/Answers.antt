@@ -5,13 +5,13 @@ use Rattle.contact.specs.Spreading.{known}
 use Rattle.contact.proofs.Marks.{first_here, first_later}
 use Rattle.contact.proofs.first_unmarked.Goals as goal
 
-pub returns-then-not-is-marked : goal.returns-then-not-is-marked
-returns-then-not-is-marked c =
-    sym (c.loop-i.invariant ∙ first_here c.args.marks.now c.args.configuration.now (c.loop-i.i + 1) c.loop-i.i c.loop-i-test.true c.if-not-is-marked.ensures)
+pub returns-then-not-is_marked : goal.returns-then-not-is_marked
+returns-then-not-is_marked c =
+    sym (c.loop-i.invariant ∙ first_here c.args.marks.now c.args.configuration.now (c.loop-i.i + 1) c.loop-i.i c.loop-i-test.true c.if-not-is_marked.ensures)
 
 pub loop-i-preserved : goal.loop-i-preserved
 loop-i-preserved c =
-    c.loop-i.invariant ∙ first_later c.args.marks.now c.args.configuration.now (c.loop-i.i + 1) c.loop-i.i c.loop-i-test.true c.if-not-is-marked.ensures
+    c.loop-i.invariant ∙ first_later c.args.marks.now c.args.configuration.now (c.loop-i.i + 1) c.loop-i.i c.loop-i-test.true c.if-not-is_marked.ensures
 
 pub returns : goal.returns
 returns c =

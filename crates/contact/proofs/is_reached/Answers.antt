@@ -9,5 +9,5 @@ returns-then-carrier-lt1 g c =
 
 pub returns : goal.returns
 returns g c =
-    c.is-marked.ensures
-    ∙ carrier_marked (g.S.Site.meaning c.args.site.now) c.args.configuration.now c.reached-places.result c.args.carrier c.reached-places.ensures (omega arith) (omega arith)
+    c.is_marked.ensures
+    ∙ carrier_marked (g.S.Site.meaning c.args.site.now) c.args.configuration.now c.reached_places.result c.args.carrier c.reached_places.ensures (omega arith) (omega arith)

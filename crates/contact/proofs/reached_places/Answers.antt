@@ -9,12 +9,12 @@ pub returns-then-not-spread : goal.returns-then-not-spread
 returns-then-not-spread g c =
     let site = c.args.site.now in
     at_rest (g.S.Site.meaning site) c.args.configuration.now (g.S.Site.lawful site) c.loop-round.marks c.spread.new.marks
-    c.if-not-spread.ensures c.loop-round.-round c.loop-round.invariant.0 (omega arith)
+    c.if-not-spread.ensures c.loop-round._round c.loop-round.invariant.0 (omega arith)
 
 pub loop-round-preserved : goal.loop-round-preserved
 loop-round-preserved g c =
     let site = c.args.site.now in (
       round_more (g.S.Site.meaning site) c.args.configuration.now (g.S.Site.lawful site) c.loop-round.marks c.spread.new.marks c.spread.result
-          c.spread.ensures c.loop-round.-round c.loop-round.invariant.0,
+          c.spread.ensures c.loop-round._round c.loop-round.invariant.0,
       c.spread.array_long,
     )

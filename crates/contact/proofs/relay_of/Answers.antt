@@ -22,10 +22,10 @@ returns-in-Some g c =
     let s = g.S.Site.meaning site in
     let configuration = c.args.configuration.now in
     let i = c.args.carrier - 1 in
-    let k = c.loop-round.-round in
+    let k = c.loop-round._round in
     let before = c.loop-round.marks in
     let after = c.spread-more.new.marks in
-    let apart = not_straight s c.base.result (get_or configuration i 0) c.base.ensures c.if-in-contact.ensures in
+    let apart = not_straight s c.base.result (get_or configuration i 0) c.base.ensures c.if-in_contact.ensures in
     let next = next_round s configuration (g.S.Site.lawful site) before after c.spread-more.result c.spread-more.ensures k c.loop-round.invariant.0 in
     by_number s configuration c.args.carrier _ (omega arith)
     (relayed_by s configuration i (omega arith) apart before after k c.in-Some.k c.loop-round.invariant.0 c.loop-round.invariant.1 next c.in-Some.ensures)
@@ -36,8 +36,8 @@ loop-round-preserved g c =
     let s = g.S.Site.meaning site in
     let configuration = c.args.configuration.now in
     let after = c.spread-more.new.marks in (
-      round_more s configuration (g.S.Site.lawful site) c.loop-round.marks after c.spread-more.result c.spread-more.ensures c.loop-round.-round c.loop-round.invariant.0,
-      not_heard s after configuration (get_or configuration (c.args.carrier - 1) 0) c.in-default.ensures,
+      round_more s configuration (g.S.Site.lawful site) c.loop-round.marks after c.spread-more.result c.spread-more.ensures c.loop-round._round c.loop-round.invariant.0,
+      not_heard s after configuration (get_or configuration (c.args.carrier - 1) 0) c.in_default.ensures,
       c.spread-more.array_long,
     )
 
@@ -46,7 +46,7 @@ returns g c =
     let s = g.S.Site.meaning c.args.site.now in
     let configuration = c.args.configuration.now in
     let i = c.args.carrier - 1 in
-    let apart = not_straight s c.base.result (get_or configuration i 0) c.base.ensures c.if-in-contact.ensures in
-    let all : c.loop-round.-round ≡ length configuration = omega arith in
+    let apart = not_straight s c.base.result (get_or configuration i 0) c.base.ensures c.if-in_contact.ensures in
+    let all : c.loop-round._round ≡ length configuration = omega arith in
     let same : known c.loop-round.marks configuration ≡ rounds (length configuration) s configuration = c.loop-round.invariant.0 ∙ ap (λ k. rounds k s configuration) all in
     by_number s configuration c.args.carrier _ (omega arith) (not_reached s configuration i (omega arith) apart c.loop-round.marks same c.loop-round.invariant.1)

@@ -7,6 +7,6 @@ use Rattle.contact.proofs.relay_of.Given as goal
 abbrev pub invariant-loop-round : goal.invariant-loop-round
 invariant-loop-round g l =
     let s = g.S.Site.meaning l.site in
-    (known l.marks l.configuration ≡ rounds l.-round s l.configuration)
+    (known l.marks l.configuration ≡ rounds l._round s l.configuration)
     × (heard s l.marks l.configuration l.place ≡ false)
     × (length l.marks ≡ most_places)
