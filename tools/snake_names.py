@@ -1,9 +1,9 @@
 #!/usr/bin/env python3
 """Brings this repository's own names to snake case, once, after the kit's port.py: usage: python3 tools/snake_names.py, at the top.
 
-The names are those of NAMES, beside this file: each definition, lemma, field, constructor and binder of specs/ and proofs/ that had a
-dash. A dash becomes an underscore, in .antt files, in the clauses and ghost items of .rt files, and in must-fail edits. Comments,
-strings, code and file names stay as they are. It refuses to run where two names would fall together.
+The names are those of NAMES, beside this file: each definition, lemma, field, constructor and binder of specs/ and proofs/ that still
+had a dash after port.py. A dash becomes an underscore, in .antt files, in the clauses and ghost items of .rt files, and in must-fail
+edits. Comments, strings, code and file names stay as they are. It refuses to run where two names of the list would fall together.
 """
 
 import os
@@ -17,6 +17,7 @@ PART = r"[\w'⊎≡≢◌+*/%<≤-]"
 
 
 def renamed(name):
+    # port.py writes the binder moves-both with the capital of a type
     return name.lower().replace("-", "_") if name == "Moves-both" else name.replace("-", "_")
 
 

@@ -119,7 +119,7 @@ module _ (s : Site) (e : Errand) (b : ℕ) where
   ways_first lawful (suc k) m p =
       table_first s.places _ (Way s e b (suc k) m) (λ q. next_first k m q (ways s e b (suc m) k) (ways_first lawful k (suc m))) (way_inside lawful (suc k) m) p
 
--- What `may-stand` says.
+-- What `may_stand` says.
 
 -- Standing at p at moment m, carrier a keeps the condition.
 abbrev pub Keeps : ℕ → ℕ → ℕ → Condition → Type 0
