@@ -17,19 +17,14 @@ PART = r"[\w'⊎≡≢◌+*/%<≤-]"
 
 
 def renamed(name):
-    # port.py writes the binder moves-both with the capital of a type
-    return name.lower().replace("-", "_") if name == "Moves-both" else name.replace("-", "_")
+    # All small: port.py writes the binder moves-both with the capital of a type.
+    return name.lower().replace("-", "_")
 
 
-def outside(text, comment):
+def pieces(text, comment):
     """The pieces of text, each with whether it is code: not a comment, and not a string."""
     for piece in re.split(rf'({comment}[^\n]*|"(?:\\.|[^"\\\n])*")', text):
         yield piece, not (re.match(comment, piece) or piece.startswith('"'))
-
-
-def turned(text, comment, names):
-    pattern = re.compile(rf"(?<!{PART[:-1]}])({'|'.join(sorted(map(re.escape, names), key=len, reverse=True))})(?!{PART[:-1]}])")
-    return "".join(pattern.sub(lambda m: renamed(m[1]), piece) if code else piece for piece, code in outside(text, comment))
 
 
 def main():
@@ -39,6 +34,7 @@ def main():
     if len(set(new)) < len(new):
         print("two names would fall together")
         return 1
+    whole = re.compile(rf"(?<!{PART})({'|'.join(re.escape(n) for n in names)})(?!{PART})")
     changed = 0
     for folder, folders, files in os.walk("crates"):
         folders[:] = sorted(d for d in folders if d != "out")
@@ -48,7 +44,8 @@ def main():
             path = os.path.join(folder, file)
             with open(path, encoding="utf-8") as f:
                 before = f.read()
-            after = turned(before, r"//" if file.endswith(".rt") else r"--(?=\s)", names)
+            comment = r"//" if file.endswith(".rt") else r"--(?=\s)"
+            after = "".join(whole.sub(lambda m: renamed(m[1]), piece) if code else piece for piece, code in pieces(before, comment))
             if after != before:
                 with open(path, "w", encoding="utf-8") as f:
                     f.write(after)
