@@ -32,8 +32,8 @@ module _ (s : Site) (c : List ℕ) (i : ℕ) (inside : i < length c) (apart : s.
   -- The first that is heard in a round is the last relay, if nobody was heard in the round before.
   last_relay : (before after : List Bool) (k j : ℕ) → known before c ≡ rounds k s c → heard s before c (get_or c i 0) ≡ false → known after c ≡ rounds (suc k) s c
       → FirstHeard s c after (get_or c i 0) (Some (suc j)) → LastRelay s c i j
-  last_relay before after k j was silent is (in_List, heard_now, none_lower) =
-      let (m, short, chain) = chain_of_round s c (suc k) j (marked_round j in_List (and_parts _ _ heard_now).0) in
+  last_relay before after k j was silent is (in_list, heard_now, none_lower) =
+      let (m, short, chain) = chain_of_round s c (suc k) j (marked_round j in_list (and_parts _ _ heard_now).0) in
       record {
         contacts = m;
         chain = chain;
