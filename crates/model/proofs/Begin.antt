@@ -22,7 +22,7 @@ use Rattle.model.proofs.Waiting.{Timely, Kept, kept_has_execution}
 module _ (p : Problem) (lawful : Lawful p.site) (pairs : List Pair) (room : ℕ) where
   -- a new search that is fit, before node 0
   abbrev new_state : State
-  new_state = fresh pairs room Running None
+  new_state = fresh pairs room Running
 
   -- Before node 0 is made every plan is left.
   nothing_yet : Fit p.site p.task (length pairs) room → Ready p (λ q. Unit {0}) new_state
@@ -51,7 +51,7 @@ module _ (p : Problem) (lawful : Lawful p.site) (pairs : List Pair) (room : ℕ)
   rooted fits (Some x) e = still_running refl (node_added p lawful new_state (root (latest x)) (nothing_yet fits) new (λ q _. inl (keeps_nothing q)))
     where
       new : NewNode p new_state (root (latest x)) [] x
-      new = record { room = omega arith; descends = inl (record { is_first = refl; own_parent = refl; no_condition = refl }); conditions = refl; runs = e; cost = refl; above = omega arith }
+      new = record { room = omega arith; hangs = tt; conditions = refl; runs = e; cost = refl; above = omega arith }
 
   pub begin_good : Good p (begin p pairs room)
   begin_good = go (unfitness p.site p.task (length pairs) room) refl
@@ -64,7 +64,7 @@ module _ (p : Problem) (lawful : Lawful p.site) (pairs : List Pair) (room : ℕ)
 pub begin_new : (p : Problem) (pairs : List Pair) (room : ℕ) → (begin p pairs room).turns ≡ 0
 begin_new p pairs room = go (unfitness p.site p.task (length pairs) room)
   where
-    with_any_root : (r : Option (List TimedPath)) → (with_root r (fresh pairs room Running None)).turns ≡ 0
+    with_any_root : (r : Option (List TimedPath)) → (with_root r (fresh pairs room Running)).turns ≡ 0
     with_any_root None = refl
     with_any_root (Some x) = refl
 

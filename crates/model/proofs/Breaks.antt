@@ -59,8 +59,8 @@ child_kept p q cs m it kept meets c among i inside name = ⊎_elim new old (Mem�
     itself : it.carrier ≡ suc i → Meets it.demand it.place (place q i m)
     itself names = subst (λ a. Meets it.demand it.place (place_of (waiting q m) a)) names meets
 
-    new : c ≡ at_time m it → Meets c.demand c.place (place q i c.moment)
-    new e = subst (λ (d : Condition). d.carrier ≡ suc i → Meets d.demand d.place (place q i d.moment)) (sym e) itself name
+    new : c ≡ at_time m it → Meets c.item.demand c.item.place (place q i c.moment)
+    new e = subst (λ (d : Condition). d.item.carrier ≡ suc i → Meets d.item.demand d.item.place (place q i d.moment)) (sym e) itself name
 
-    old : Memᴰ c cs → Meets c.demand c.place (place q i c.moment)
+    old : Memᴰ c cs → Meets c.item.demand c.item.place (place q i c.moment)
     old h = kept c h i inside name

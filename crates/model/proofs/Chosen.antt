@@ -123,7 +123,7 @@ module _ (s : Site) (e : Errand) (b : ℕ) where
 
 -- Standing at p at moment m, carrier a keeps the condition.
 abbrev pub Keeps : ℕ → ℕ → ℕ → Condition → Type 0
-Keeps a m p c = c.carrier ≡ a → c.moment ≡ m → Meets c.demand c.place p
+Keeps a m p c = c.item.carrier ≡ a → c.moment ≡ m → Meets c.item.demand c.item.place p
 
 -- The carrier may stand at p at moment m, if it is to be at the goal from moment b on.
 record Stands (s : Site) (e : Errand) (b m p : ℕ) : Type 0 where
@@ -139,12 +139,12 @@ test_of_meets : (d : Demand) (q p : ℕ) → Meets d q p → beq (eqb p q) (must
 test_of_meets MustBe q p h = grind (arith, nat_tests)
 test_of_meets MustNotBe q p h = grind (arith, nat_tests)
 
-keeps_one : (a m p : ℕ) (c : Condition) → cond (eqb c.carrier a && eqb c.moment m) (beq (eqb p c.place) (must_be c.demand)) true ≡ true → Keeps a m p c
-keeps_one a m p c h at on = meets c.demand c.place p (grind (arith, nat_tests))
+keeps_one : (a m p : ℕ) (c : Condition) → cond (eqb c.item.carrier a && eqb c.moment m) (beq (eqb p c.item.place) (must_be c.item.demand)) true ≡ true → Keeps a m p c
+keeps_one a m p c h at on = meets c.item.demand c.item.place p (grind (arith, nat_tests))
 
-test_of_keeps : (a m p : ℕ) (c : Condition) → Keeps a m p c → cond (eqb c.carrier a && eqb c.moment m) (beq (eqb p c.place) (must_be c.demand)) true ≡ true
-test_of_keeps a m p c h = cond_both (eqb c.carrier a && eqb c.moment m) _ _ (λ t. t ≡ true)
-    (λ t. test_of_meets c.demand c.place p (h (grind (arith, nat_tests)) (grind (arith, nat_tests))))
+test_of_keeps : (a m p : ℕ) (c : Condition) → Keeps a m p c → cond (eqb c.item.carrier a && eqb c.moment m) (beq (eqb p c.item.place) (must_be c.item.demand)) true ≡ true
+test_of_keeps a m p c h = cond_both (eqb c.item.carrier a && eqb c.moment m) _ _ (λ t. t ≡ true)
+    (λ t. test_of_meets c.item.demand c.item.place p (h (grind (arith, nat_tests)) (grind (arith, nat_tests))))
     (λ _. refl)
 
 pub allowed_keeps : (a m p : ℕ) (cs : List Condition) → allowed a cs m p ≡ true → (c : Condition) → Memᴰ c cs → Keeps a m p c
@@ -394,7 +394,7 @@ path_with_less s e c q h = record {
   keeps = λ d t. h.keeps d (Memᴰ.tail t);
 }
 
-path_with_other : (s : Site) (e : Errand) (c : Condition) (q : List ℕ) → (c.carrier ≡ e.carrier → ⊥) → IsPath s e q → IsPath s (under e (c ∷ e.conditions)) q
+path_with_other : (s : Site) (e : Errand) (c : Condition) (q : List ℕ) → (c.item.carrier ≡ e.carrier → ⊥) → IsPath s e q → IsPath s (under e (c ∷ e.conditions)) q
 path_with_other s e c q other h = record {
   long = h.long;
   begins = h.begins;
@@ -405,7 +405,7 @@ path_with_other s e c q other h = record {
 }
 
 -- A condition on another carrier changes nothing.
-pub chosen_with_other : (s : Site) (e : Errand) (c : Condition) → Lawful s → (c.carrier ≡ e.carrier → ⊥) → chosen s e ≡ chosen s (under e (c ∷ e.conditions))
+pub chosen_with_other : (s : Site) (e : Errand) (c : Condition) → Lawful s → (c.item.carrier ≡ e.carrier → ⊥) → chosen s e ≡ chosen s (under e (c ∷ e.conditions))
 chosen_with_other s e c lawful other = chosen_same s e (c ∷ e.conditions) lawful (λ q. (path_with_other s e c q other, path_with_less s e c q))
 
 -- No condition makes the arrival earlier.

@@ -14,7 +14,7 @@ use Rattle.model.specs.Site.{Lawful}
 use Rattle.model.specs.State.{Problem, State, with_node}
 use Rattle.model.specs.Turn.{taken}
 use Rattle.model.proofs.Execution.{executes, latest_in_time}
-use Rattle.model.proofs.Nodes.{Family, Descends, one_longer, conditions_stay, family_grows}
+use Rattle.model.proofs.Nodes.{Family, HangsBefore, one_longer, conditions_stay, family_grows}
 use Rattle.model.proofs.OpenList.{before_costs, head_before, insert_length, insert_in_order, put_is_there, others_stay, put_or_there, put_inserts}
 use Rattle.model.proofs.Waiting.{Timely, Kept, kept_cost}
 
@@ -64,7 +64,7 @@ fewer_left {p} {Left} {Fewer} {st} r f = record {
 -- A new node that is put covers the plans that keep its conditions.
 pub record NewNode (p : Problem) (st : State) (n : Node) (cs : List Condition) (x : List TimedPath) : Type 0 where
   pub room : length st.nodes < most_nodes
-  pub descends : Descends (st.nodes ++ (n ∷ [])) (length st.nodes)
+  pub hangs : HangsBefore (length st.nodes) n.branch
   pub conditions : conditions_of (st.nodes ++ (n ∷ [])) (length st.nodes) ≡ cs
   pub runs : execution p.site p.task cs ≡ Some x
   pub cost : latest x ≡ n.cost
@@ -110,7 +110,7 @@ module _ (p : Problem) (st : State) (n : Node) where
         → ((q : Timely p) → Left q → Kept q cs ⊎ Fewer q) → Ready p Fewer (with_node n st)
     put_covers {Left} {Fewer} {cs} {x} r new f = record {
       crew = r.crew;
-      family = family_grows st.nodes n r.family new.descends;
+      family = family_grows st.nodes n r.family new.hangs;
       opened = λ a h. ⊎_elim (λ (e : a ≡ here). subst (Opened p (with_node n st)) (sym e) here_opened) (λ (t : Memᴰ a st.pairs). stays_open r.family a (r.opened a t))
           (put_or_there here a st.pairs (subst (Memᴰ a) accepted h));
       ordered = subst InOrder (sym accepted) (insert_in_order here st.pairs r.ordered);

@@ -19,29 +19,29 @@ both_pass None b = (λ e. (refl, e), λ h. h.1)
 both_pass (Some u) b = (λ e. absurd (never_none u (sym e)), λ h. absurd (never_none u (sym h.0)))
 
 -- and a check finds nothing exactly if its test holds.
-passes : (test : Bool) (r : Refusal) (carrier : ℕ) → (required test r carrier ≡ None) ↔ (test ≡ true)
+passes : (test : Bool) (r : Refusal) (carrier : Option ℕ) → (required test r carrier ≡ None) ↔ (test ≡ true)
 passes true r carrier = (λ _. refl, λ _. refl)
 passes false r carrier = (λ e. absurd (never_none (record { refusal = r; carrier = carrier }) (sym e)), λ e. absurd (both_ways false refl e))
 
 list_passes : (size room : ℕ) → (check_list size room ≡ None) ↔ ((size ≡ 0) × (most_nodes ≤ room))
 list_passes size room = (
-  λ e. let (a, b) = and_parts (eqb size 0) (leb most_nodes room) ((passes _ ListUnfit 0).0 e) in (eqb-true size 0 a, leb-true most_nodes room b),
-  λ (a, b). (passes _ ListUnfit 0).1 (and_from _ _ (eq-eqb size 0 a) (le-leb most_nodes room b)),
+  λ e. let (a, b) = and_parts (eqb size 0) (leb most_nodes room) ((passes _ ListUnfit None).0 e) in (eqb-true size 0 a, leb-true most_nodes room b),
+  λ (a, b). (passes _ ListUnfit None).1 (and_from _ _ (eq-eqb size 0 a) (le-leb most_nodes room b)),
 )
 
 crew_passes : (t : Task) → (check_crew t ≡ None) ↔ ((1 ≤ length t.starts) × (length t.starts ≤ most_carriers) × (length t.starts ≡ length t.goals))
 crew_passes t = (
   λ e.
-      let (ab, c) = and_parts (ltb 0 (length t.starts) && leb (length t.starts) most_carriers) (eqb (length t.starts) (length t.goals)) ((passes _ CrewUnfit 0).0 e) in
+      let (ab, c) = and_parts (ltb 0 (length t.starts) && leb (length t.starts) most_carriers) (eqb (length t.starts) (length t.goals)) ((passes _ CrewUnfit None).0 e) in
       let (a, b) = and_parts (ltb 0 (length t.starts)) (leb (length t.starts) most_carriers) ab in
       (ltb-true 0 (length t.starts) a, leb-true (length t.starts) most_carriers b, eqb-true (length t.starts) (length t.goals) c),
-  λ (a, b, c). (passes _ CrewUnfit 0).1 (and_from _ _ (and_from _ _ (lt-ltb 0 (length t.starts) a) (le-leb (length t.starts) most_carriers b)) (eq-eqb (length t.starts) (length t.goals) c)),
+  λ (a, b, c). (passes _ CrewUnfit None).1 (and_from _ _ (and_from _ _ (lt-ltb 0 (length t.starts) a) (le-leb (length t.starts) most_carriers b)) (eq-eqb (length t.starts) (length t.goals) c)),
 )
 
 horizon_passes : (t : Task) → (check_horizon t ≡ None) ↔ (t.horizon ≤ most_steps)
 horizon_passes t = (
-  λ e. leb-true t.horizon most_steps ((passes _ HorizonTooFar 0).0 e),
-  λ h. (passes _ HorizonTooFar 0).1 (le-leb t.horizon most_steps h),
+  λ e. leb-true t.horizon most_steps ((passes _ HorizonTooFar None).0 e),
+  λ h. (passes _ HorizonTooFar None).1 (le-leb t.horizon most_steps h),
 )
 
 contact_passes : (s : Site) (c : List ℕ) (r : Refusal) → (check_contact r (lost s c) ≡ None) ↔ Connected s c
@@ -52,7 +52,7 @@ contact_passes s c r = (
   where
     nobody : (o : Option ℕ) → lost s c ≡ o → check_contact r o ≡ None → is_connected s c ≡ true
     nobody None at e = ap (λ o. not (is_some o)) at
-    nobody (Some k) at e = absurd (never_none (record { refusal = r; carrier = k }) (sym e))
+    nobody (Some k) at e = absurd (never_none (record { refusal = r; carrier = Some k }) (sym e))
 
     silent : (o : Option ℕ) → lost s c ≡ o → is_connected s c ≡ true → check_contact r o ≡ None
     silent None at e = refl
@@ -73,8 +73,8 @@ places_pass s a [] (g ∷ gs) l = absurd (omega arith)
 places_pass s a (x ∷ xs) [] l = absurd (omega arith)
 places_pass s a (x ∷ xs) (g ∷ gs) l =
     let later = places_pass s (suc a) xs gs (omega arith) in
-    let both = both_pass (required (s.is_open x && s.is_open g) StartOrGoalClosed a) (check_places s (suc a) xs gs) in
-    let test = passes (s.is_open x && s.is_open g) StartOrGoalClosed a in (
+    let both = both_pass (required (s.is_open x && s.is_open g) StartOrGoalClosed (Some a)) (check_places s (suc a) xs gs) in
+    let test = passes (s.is_open x && s.is_open g) StartOrGoalClosed (Some a) in (
       λ e.
           let (here, more) = both.0 e in
           let (o, p) = and_parts (s.is_open x) (s.is_open g) (test.0 here) in
@@ -89,7 +89,7 @@ BothOpen s xs gs i = (s.is_open (get_or xs i 0) ≡ true) × (s.is_open (get_or 
 
 -- The refusal that names carrier n.
 abbrev closed_at : ℕ → Unfitness
-closed_at n = record { refusal = StartOrGoalClosed; carrier = n }
+closed_at n = record { refusal = StartOrGoalClosed; carrier = Some n }
 
 -- Of the carriers from number a on, the lowest whose start or goal is closed has index i.
 record LowestClosed (s : Site) (a : ℕ) (xs gs : List ℕ) (u : Unfitness) : Type 0 where
@@ -127,7 +127,7 @@ lowest_closed s a (x ∷ xs) [] u e = absurd (never_none u e)
 lowest_closed s a (x ∷ xs) (g ∷ gs) u e = go (s.is_open x && s.is_open g) refl (λ f. lowest_closed s (suc a) xs gs u f) e
   where
     go : (test : Bool) → (s.is_open x && s.is_open g) ≡ test → (check_places s (suc a) xs gs ≡ Some u → LowestClosed s (suc a) xs gs u)
-        → first_of (required test StartOrGoalClosed a) (check_places s (suc a) xs gs) ≡ Some u → LowestClosed s a (x ∷ xs) (g ∷ gs) u
+        → first_of (required test StartOrGoalClosed (Some a)) (check_places s (suc a) xs gs) ≡ Some u → LowestClosed s a (x ∷ xs) (g ∷ gs) u
     go true fine later f = lowest_later s a x g xs gs u (and_parts (s.is_open x) (s.is_open g) fine) (later f)
     go false shut later f = lowest_here s a x g xs gs u shut (cc)
 

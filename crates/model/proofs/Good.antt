@@ -14,21 +14,22 @@ use Rattle.model.specs.State.{Problem, State}
 use Rattle.model.proofs.Covering.{Ready, NoneLeft}
 use Rattle.model.proofs.Waiting.{Timely}
 
--- A found search: the node last taken has an execution of the floor's cost, in contact up to it.
-pub record Shown (p : Problem) (st : State) : Type 0 where
+-- A found search: the node last taken has an execution of as many steps, which are the floor, in contact up to them.
+pub record Shown (p : Problem) (st : State) (steps : ℕ) : Type 0 where
   pub crew : length p.task.starts ≡ length p.task.goals
   pub paths : List TimedPath
   pub runs : execution p.site p.task (conditions_of st.nodes st.last) ≡ Some paths
+  pub arrive : steps ≡ latest paths
   pub cost : latest paths ≡ st.floor
   pub in_contact : (m : ℕ) → m ≤ latest paths → is_connected p.site (at_moment paths m) ≡ true
 
 -- What holds besides, by the outcome.
 abbrev pub Standing : Problem → State → Outcome → Type 0
 Standing p st Running = Ready p NoneLeft st
-Standing p st Found = Shown p st
+Standing p st (Found n) = Shown p st n
 Standing p st NoPlan = st.floor ≡ suc p.task.horizon
 Standing p st Full = length st.nodes ≡ most_nodes
-Standing p st Unfit = Unit {0}
+Standing p st (Unfit u) = Unit {0}
 
 -- Every state of a search is good: its floor is right, it stands as its outcome says, and each node was put.
 pub record Good (p : Problem) (st : State) : Type 0 where

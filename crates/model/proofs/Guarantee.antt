@@ -1,14 +1,15 @@
 -- The guarantee, and that no put is refused.
-use Rattle.std.proofs.Common.{◌≡◌, ℕ, suc, ◌≤◌, cond, ◌↔◌, List, ◌∷◌, ◌++◌, length, get_or, Some, sym, refl, ap, ◌∙◌, subst, arith}
+use Rattle.std.proofs.Common.{◌≡◌, ℕ, suc, ◌≤◌, ◌↔◌, List, ◌∷◌, ◌++◌, length, Some, Err, Result, sym, refl, ap, ◌∙◌, subst, arith}
+use Rattle.std.specs.Prelude.{slice_get}
 use Rattle.model.specs.declared.call.Answer.{Answer}
-use Rattle.model.specs.declared.call.Answer.TheVariants.{Refused, Turns}
 use Rattle.model.specs.declared.call.Call.{Call}
 use Rattle.model.specs.declared.item.Condition.{Condition}
 use Rattle.model.specs.declared.outcome.Outcome.{Outcome}
 use Rattle.model.specs.declared.outcome.Outcome.TheVariants.{Running, Found, NoPlan, Full, Unfit}
+use Rattle.model.specs.declared.outcome.Unfitness.{Unfitness}
 use Rattle.model.specs.declared.refusal.Refusal.{Refusal}
 use Rattle.model.specs.Begin.{begin}
-use Rattle.model.specs.Calls.{answer, last_paths, paths_or_none, steps_of, plan_of, shown, refusal}
+use Rattle.model.specs.Calls.{answer, last_paths, paths_or_none, plan_of, shown, refusal}
 use Rattle.model.specs.Execution.{latest, at_moment}
 use Rattle.model.specs.Guarantee.{Guarantee, Guaranteed, NoPutIsRefused, EachNodeWasPut}
 use Rattle.model.specs.Limits.{most_nodes}
@@ -17,7 +18,7 @@ use Rattle.model.specs.Plan.{IsPlan, NoPlanExists}
 use Rattle.model.specs.Rule.{RuleLaws}
 use Rattle.model.specs.Run.{Run, after_all, answers_to, turns_asked}
 use Rattle.model.specs.Site.{Lawful}
-use Rattle.model.specs.State.{Problem, State, is_found}
+use Rattle.model.specs.State.{Problem, State}
 use Rattle.model.proofs.Begin.{begin_good, begin_new}
 use Rattle.model.proofs.Calls.{refused_iff, accepted_answers, refused_leaves, shown_is}
 use Rattle.model.proofs.Covering.{Ready, NoneLeft}
@@ -28,18 +29,15 @@ use Rattle.model.proofs.Run.{after_two, run_ends, run_answers, answers_length, a
 use Rattle.model.proofs.Turns.{Course, turns_course}
 
 -- What is shown once found is a plan, of as many steps as its floor.
-module _ (p : Problem) (lawful : Lawful p.site) (st : State) (good : Good p st) (is : st.outcome ≡ Found) where
-  find : Shown p st
+module _ (p : Problem) (lawful : Lawful p.site) (st : State) (good : Good p st) (steps : ℕ) (is : st.outcome ≡ Found steps) where
+  find : Shown p st steps
   find = subst (Standing p st) is good.standing
 
   paths_are : last_paths p st ≡ find.paths
   paths_are = ap paths_or_none find.runs
 
-  steps_are : steps_of p st ≡ latest (last_paths p st)
-  steps_are = ap (λ o. cond (is_found o) (latest (last_paths p st)) 0) is
-
-  steps_are_floor : steps_of p st ≡ st.floor
-  steps_are_floor = steps_are ∙ ap latest paths_are ∙ find.cost
+  steps_are_floor : steps ≡ st.floor
+  steps_are_floor = find.arrive ∙ find.cost
 
   -- the conditions of the node last taken, whose paths are shown
   abbrev cs : List Condition
@@ -48,16 +46,16 @@ module _ (p : Problem) (lawful : Lawful p.site) (st : State) (good : Good p st) 
   ex : Executes p cs find.paths
   ex = executes p cs find.paths find.runs
 
-  steps_in_time : steps_of p st ≤ p.task.horizon
-  steps_in_time = omega (arith, steps_are ∙ ap latest paths_are, latest_in_time p lawful cs find.paths ex)
+  steps_in_time : steps ≤ p.task.horizon
+  steps_in_time = omega (arith, find.arrive, latest_in_time p lawful cs find.paths ex)
 
-  its_plan : IsPlan p.site p.task (steps_of p st) (plan_of p st)
+  its_plan : IsPlan p.site p.task steps (plan_of p st)
   its_plan =
-      subst (λ n. IsPlan p.site p.task n (plan_of p st)) (sym steps_are)
-      (subst (λ x. IsPlan p.site p.task (latest x) (at_moment x)) (sym paths_are) (unbroken_is_plan p lawful cs find.paths find.crew ex find.in_contact))
+      subst (λ n. IsPlan p.site p.task n (plan_of p st)) (sym find.arrive)
+      (subst (λ x. IsPlan p.site p.task (latest find.paths) (at_moment x)) (sym paths_are) (unbroken_is_plan p lawful cs find.paths find.crew ex find.in_contact))
 
-  shown_is_plan : IsPlan p.site p.task (steps_of p st) (shown p st)
-  shown_is_plan = plan_alike (λ m h. sym (shown_is p st (ap is_found is) m h (its_plan.everyone m h))) its_plan
+  shown_is_plan : IsPlan p.site p.task steps (shown p st)
+  shown_is_plan = plan_alike (λ m h. sym (shown_is p st steps is m h (its_plan.everyone m h))) its_plan
 
 module _ (p : Problem) (lawful : Lawful p.site) (laws : RuleLaws p.rule) (start : State) (start_good : Good p start) where
   -- the state after the calls, and the turns that they ask for
@@ -73,14 +71,14 @@ module _ (p : Problem) (lawful : Lawful p.site) (laws : RuleLaws p.rule) (start 
   pub good_after : (calls : List Call) → Good p (at_end calls)
   good_after calls = (course_of start start_good calls).good
 
-  none_said : (calls : List Call) → (o : Outcome) → (at_end calls).outcome ≡ o → ((at_end calls).outcome ≡ Running → ⊥) → ((at_end calls).outcome ≡ Unfit → ⊥) → ((at_end calls).outcome ≡ Full → ⊥)
+  none_said : (calls : List Call) → (o : Outcome) → (at_end calls).outcome ≡ o → ((at_end calls).outcome ≡ Running → ⊥) → ((u : Unfitness) → (at_end calls).outcome ≡ Unfit u → ⊥) → ((at_end calls).outcome ≡ Full → ⊥)
       → NoPlanExists p.site p.task → (at_end calls).outcome ≡ NoPlan
   none_said calls Running e not_running not_unfit not_full no_plan = absurd (not_running e)
-  none_said calls Found e not_running not_unfit not_full no_plan =
-      absurd (no_plan (steps_of p (at_end calls)) (shown p (at_end calls)) (steps_in_time p lawful (at_end calls) (good_after calls) e) (shown_is_plan p lawful (at_end calls) (good_after calls) e))
+  none_said calls (Found n) e not_running not_unfit not_full no_plan =
+      absurd (no_plan n (shown p (at_end calls)) (steps_in_time p lawful (at_end calls) (good_after calls) n e) (shown_is_plan p lawful (at_end calls) (good_after calls) n e))
   none_said calls NoPlan e not_running not_unfit not_full no_plan = e
   none_said calls Full e not_running not_unfit not_full no_plan = absurd (not_full e)
-  none_said calls Unfit e not_running not_unfit not_full no_plan = absurd (not_unfit e)
+  none_said calls (Unfit u) e not_running not_unfit not_full no_plan = absurd (not_unfit u e)
 
   none_true : (calls : List Call) → (at_end calls).outcome ≡ NoPlan → NoPlanExists p.site p.task
   none_true calls is steps plan in_time h =
@@ -98,22 +96,22 @@ module _ (p : Problem) (lawful : Lawful p.site) (laws : RuleLaws p.rule) (start 
 
   -- What is answered to a call among others.
   in_its_turn : (calls sooner : List Call) (call : Call) (later : List Call) → sooner ++ (call ∷ later) ≡ calls
-      → get_or (answers_to p start calls) (length sooner) (Turns 0) ≡ answer p (at_end sooner) call
+      → slice_get (answers_to p start calls) (length sooner) ≡ Some (answer p (at_end sooner) call)
   in_its_turn calls sooner call later e =
-      subst (λ cs. get_or (answers_to p start cs) (length sooner) (Turns 0) ≡ answer p (at_end sooner) call) e (answer_in_turn p start sooner call later (Turns 0))
+      subst (λ cs. slice_get (answers_to p start cs) (length sooner) ≡ Some (answer p (at_end sooner) call)) e (answer_in_turn p start sooner call later)
 
   refused_exactly : (calls sooner : List Call) (call : Call) (later : List Call) (r : Refusal) → sooner ++ (call ∷ later) ≡ calls
-      → (get_or (answers_to p start calls) (length sooner) (Turns 0) ≡ Refused r) ↔ (refusal p (at_end sooner) call ≡ Some r)
+      → (slice_get (answers_to p start calls) (length sooner) ≡ Some (Err r)) ↔ (refusal p (at_end sooner) call ≡ Some r)
   refused_exactly calls sooner call later r e =
       let same = in_its_turn calls sooner call later e in
       let iff = refused_iff p (at_end sooner) call r in
-      ((λ h. iff.0 (sym same ∙ h)), (λ h. same ∙ iff.1 h))
+      ((λ h. iff.0 (cc (same, h))), (λ h. same ∙ ap Some (iff.1 h)))
 
   guarantee_of : start.turns ≡ 0 → (calls : List Call) → Guarantee p start calls (answers_to p start calls) (at_end calls)
   guarantee_of new calls = record {
-    found_is_a_plan = λ is. shown_is_plan p lawful (at_end calls) (good_after calls) is;
-    found_is_in_time = λ is. steps_in_time p lawful (at_end calls) (good_after calls) is;
-    found_is_least = λ is steps plan h. let low = (good_after calls).floor_holds steps plan h in omega (arith, steps_are_floor p lawful (at_end calls) (good_after calls) is);
+    found_is_a_plan = shown_is_plan p lawful (at_end calls) (good_after calls);
+    found_is_in_time = steps_in_time p lawful (at_end calls) (good_after calls);
+    found_is_least = λ n is steps plan h. let low = (good_after calls).floor_holds steps plan h in omega (arith, steps_are_floor p lawful (at_end calls) (good_after calls) n is);
     none_is_true = none_true calls;
     none_is_said = none_said calls (at_end calls).outcome refl;
     full_is_full = λ is. subst (Standing p (at_end calls)) is (good_after calls).standing;
@@ -124,14 +122,14 @@ module _ (p : Problem) (lawful : Lawful p.site) (laws : RuleLaws p.rule) (start 
     turns_are_those_asked_for = calls_are_turns p start calls;
     every_call_is_answered = answers_length p start calls;
     refused_where_due = λ sooner call later first then r e run.
-        subst (λ st. (get_or (answers_to p start calls) (length sooner) (Turns 0) ≡ Refused r) ↔ (refusal p st call ≡ Some r)) (sym (run_ends p run))
+        subst (λ st. (slice_get (answers_to p start calls) (length sooner) ≡ Some (Err r)) ↔ (refusal p st call ≡ Some r)) (sym (run_ends p run))
         (refused_exactly calls sooner call later r e);
     refused_alters_nothing = λ sooner call later first then r e run h. refused_leaves p then call r h;
     answered_as_defined = λ sooner call later first then e run h.
-        in_its_turn calls sooner call later e ∙ ap (λ st. answer p st call) (sym (run_ends p run)) ∙ accepted_answers p then call h;
+        in_its_turn calls sooner call later e ∙ ap (λ st. Some (answer p st call)) (sym (run_ends p run)) ∙ ap Some (accepted_answers p then call h);
   }
 
-  pub guarantee : start.turns ≡ 0 → (calls : List Call) (answers : List Answer) (now : State) → Run p start calls answers now → Guarantee p start calls answers now
+  pub guarantee : start.turns ≡ 0 → (calls : List Call) (answers : List (Result Answer Refusal)) (now : State) → Run p start calls answers now → Guarantee p start calls answers now
   guarantee new calls answers now run =
       subst (λ l. Guarantee p start calls l now) (sym (run_answers p run)) (subst (Guarantee p start calls (answers_to p start calls)) (sym (run_ends p run)) (guarantee_of new calls))
 

@@ -1,8 +1,10 @@
 -- Every list of calls has one run; runs join; and the turns that are made are those asked for.
-use Rattle.std.proofs.Common.{◌≡◌, ℕ, suc, List, [], ◌∷◌, ◌++◌, length, get_or, sym, refl, ap, ◌∙◌, subst}
+use Rattle.std.proofs.Common.{◌≡◌, ℕ, suc, List, [], ◌∷◌, ◌++◌, length, Some, Result, sym, refl, ap, ◌∙◌, subst}
+use Rattle.std.specs.Prelude.{slice_get}
 use Rattle.std.proofs.lemmas.List.{append-nil, append_assoc}
 use Rattle.model.specs.declared.call.Answer.{Answer}
 use Rattle.model.specs.declared.call.Call.{Call}
+use Rattle.model.specs.declared.refusal.Refusal.{Refusal}
 use Rattle.model.specs.Calls.{answer, after}
 use Rattle.model.specs.Run.{Run, after_all, answers_to, turns_granted, turns_asked, RunsAreDetermined}
 use Rattle.model.specs.Run.Run.{no_calls, and_then}
@@ -24,11 +26,11 @@ module _ (p : Problem) where
 
   -- A run leads to that state and has those answers,
 
-  pub run_ends : {start st : State} {calls : List Call} {answers : List Answer} → Run p start calls answers st → st ≡ after_all p start calls
+  pub run_ends : {start st : State} {calls : List Call} {answers : List (Result Answer Refusal)} → Run p start calls answers st → st ≡ after_all p start calls
   run_ends no_calls = refl
   run_ends {start} (and_then {calls = calls} r c) = ap (λ s. after p s c) (run_ends r) ∙ sym (after_two start calls (c ∷ []))
 
-  pub run_answers : {start st : State} {calls : List Call} {answers : List Answer} → Run p start calls answers st → answers ≡ answers_to p start calls
+  pub run_answers : {start st : State} {calls : List Call} {answers : List (Result Answer Refusal)} → Run p start calls answers st → answers ≡ answers_to p start calls
   run_answers no_calls = refl
   run_answers {start} (and_then {calls = calls} {answers = answers} {st = st} r c) =
       ap (λ l. l ++ (answer p st c ∷ [])) (run_answers r)
@@ -36,7 +38,7 @@ module _ (p : Problem) where
       ∙ sym (answers_two start calls (c ∷ []))
 
   -- and goes on with every list of calls.
-  run_on : (more : List Call) (start st : State) (calls : List Call) (answers : List Answer) → Run p start calls answers st
+  run_on : (more : List Call) (start st : State) (calls : List Call) (answers : List (Result Answer Refusal)) → Run p start calls answers st
       → Run p start (calls ++ more) (answers ++ answers_to p st more) (after_all p st more)
   run_on [] start st calls answers r =
       subst (λ cs. Run p start cs (answers ++ []) st) (sym (append-nil calls)) (subst (λ l. Run p start calls l st) (sym (append-nil answers)) r)
@@ -54,10 +56,10 @@ module _ (p : Problem) where
   answers_length st [] = refl
   answers_length st (c ∷ cs) = ap suc (answers_length (after p st c) cs)
 
-  pub answer_in_turn : (st : State) (sooner : List Call) (c : Call) (later : List Call) (d : Answer)
-      → get_or (answers_to p st (sooner ++ (c ∷ later))) (length sooner) d ≡ answer p (after_all p st sooner) c
-  answer_in_turn st [] c later d = refl
-  answer_in_turn st (b ∷ sooner) c later d = answer_in_turn (after p st b) sooner c later d
+  pub answer_in_turn : (st : State) (sooner : List Call) (c : Call) (later : List Call)
+      → slice_get (answers_to p st (sooner ++ (c ∷ later))) (length sooner) ≡ Some (answer p (after_all p st sooner) c)
+  answer_in_turn st [] c later = refl
+  answer_in_turn st (b ∷ sooner) c later = answer_in_turn (after p st b) sooner c later
 
   -- The turns made are those asked for.
   pub calls_are_turns : (st : State) (cs : List Call) → after_all p st cs ≡ turns_of p (turns_asked cs (answers_to p st cs)) st

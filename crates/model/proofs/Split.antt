@@ -1,8 +1,7 @@
 -- A node that is out of contact is split: its children cover the plans that it covered, or the table is full.
-use Rattle.std.proofs.Common.{◌≡◌, ℕ, ◌<◌, true, cond, ltb, ◌⊎◌, List, [], ◌∷◌, ◌++◌, length, Some, None, Option, sym, refl, ap, ◌∙◌, subst, inl, inr, ⊎_elim, arith}
+use Rattle.std.proofs.Common.{◌≡◌, ℕ, ◌<◌, true, cond, ltb, ◌⊎◌, List, [], ◌∷◌, length, Some, None, Option, sym, refl, ap, ◌∙◌, subst, inl, inr, ⊎_elim, arith}
 use mathlib.Core.List.Memᴰ
 use mathlib.Core.List.{Memᴰ}
-use Rattle.std.proofs.lemmas.List.{get_or_push}
 use Rattle.std.proofs.lemmas.Bool.{cond_both, ltb-true, ltb-false, both_ways}
 use Rattle.model.specs.declared.item.Condition.{Condition}
 use Rattle.model.specs.declared.item.Item.{Item}
@@ -12,7 +11,7 @@ use Rattle.model.specs.Execution.{execution, latest}
 use Rattle.model.specs.Guarantee.{EachNodeWasPut}
 use Rattle.model.specs.Limits.{most_nodes}
 use Rattle.model.specs.Item.{at_time}
-use Rattle.model.specs.Nodes.{nowhere, child, conditions_of}
+use Rattle.model.specs.Nodes.{child, conditions_of}
 use Rattle.model.specs.Plan.{NoPlanBelow}
 use Rattle.model.specs.Path.{TimedPath}
 use Rattle.model.specs.Site.{Lawful}
@@ -22,7 +21,7 @@ use Rattle.model.proofs.Breaks.{MeetsOne, child_kept}
 use Rattle.model.proofs.Covering.{Ready, fewer_left, NewNode, node_added}
 use Rattle.model.proofs.Execution.{never_none, Executes, executes, cost_never_falls}
 use Rattle.model.proofs.Good.{Good, ready_below, still_running}
-use Rattle.model.proofs.Nodes.{parent_of, one_longer, conditions_of_new, conditions_stay}
+use Rattle.model.proofs.Nodes.{one_longer, conditions_of_child, conditions_stay}
 use Rattle.model.proofs.Waiting.{Timely, Kept, kept_has_execution}
 
 -- Node i, with the conditions cs, is out of contact at moment m in the configuration c.
@@ -92,14 +91,11 @@ module _ (p : Problem) (i : ℕ) (cs : List Condition) (m : ℕ) (c : List ℕ) 
       at_floor = s.at_floor;
     }
       where
-        its_parent : parent_of (st.nodes ++ (child_of it y ∷ [])) (length st.nodes) ≡ i
-        its_parent = ap (λ (n : Node). n.parent) (get_or_push st.nodes (child_of it y) nowhere (length st.nodes) refl)
-
         new : NewNode p st (child_of it y) (under it) y
         new = record {
           room = room;
-          descends = inr (omega (arith, its_parent, s.inside));
-          conditions = conditions_of_new st.nodes (child_of it y) s.ready.family s.inside ∙ ap (λ l. at_time m it ∷ l) s.conditions;
+          hangs = s.inside;
+          conditions = conditions_of_child st.nodes i (at_time m it) (latest y) s.ready.family s.inside ∙ ap (λ l. at_time m it ∷ l) s.conditions;
           runs = runs;
           cost = refl;
           above = omega (arith, s.at_floor, cost_never_falls p lawful (at_time m it) cs x y ex (executes p (under it) y runs));

@@ -60,6 +60,7 @@ module _ (p : Problem) (lawful : Lawful p.site) (laws : RuleLaws p.rule)
       crew = r.crew;
       paths = here.paths;
       runs = here.runs;
+      arrive = refl;
       cost = here.cost;
       in_contact = λ m h. unbroken p.site here.paths 0 moments e m (omega arith) (omega arith);
     };
@@ -106,7 +107,7 @@ module _ (f : State → ℕ) (same : Untouched f) (p : Problem) (i : ℕ) (cs : 
       cond_both (is_full st.outcome) st (split p i cs m c its next) (λ u. f u ≡ f st) (λ _. refl) (λ _. split_keeps m c its next ∙ added)
 
   expand_keeps : (x : List TimedPath) (b : Option ℕ) (st : State) → f (expand p i cs x b st) ≡ f st
-  expand_keeps x None st = same.by_outcome Found st
+  expand_keeps x None st = same.by_outcome (Found (latest x)) st
   expand_keeps x (Some m) st = split_keeps m (at_moment x m) (items (carriers p) p.site.places) st
 
   visit_keeps : (r : Option (List TimedPath)) (st : State) → f (visit p i cs r st) ≡ f st

@@ -33,7 +33,7 @@ place q i m = get_or (waiting q m) i 0
 
 -- The plan keeps conditions if every carrier, so waiting, meets those that name it.
 abbrev pub Kept : {p : Problem} → Timely p → List Condition → Type 0
-Kept {p} q cs = (c : Condition) → Memᴰ c cs → (i : ℕ) → i < carriers p → c.carrier ≡ suc i → Meets c.demand c.place (place q i c.moment)
+Kept {p} q cs = (c : Condition) → Memᴰ c cs → (i : ℕ) → i < carriers p → c.item.carrier ≡ suc i → Meets c.item.demand c.item.place (place q i c.moment)
 
 module _ (p : Problem) (lawful : Lawful p.site) (q : Timely p) where
   -- the path of the carrier at index i
@@ -77,7 +77,7 @@ module _ (p : Problem) (lawful : Lawful p.site) (q : Timely p) where
     ends = way_at i p.task.horizon (omega arith) ∙ ap (λ c. get_or c i 0) (after_end p.task.horizon q.in_time);
     moves = λ m l. rw (way_at i m (omega arith), way_at i (suc m) l) (waiting_moves m i h);
     through_open = λ m l. rw (way_at i m l) (waiting_open m i h);
-    keeps = λ c there name l. subst (Meets c.demand c.place) (sym (way_at i c.moment l)) (kept c there i h name);
+    keeps = λ c there name l. subst (Meets c.item.demand c.item.place) (sym (way_at i c.moment l)) (kept c there i h name);
   }
 
   -- So the conditions that a plan keeps have an execution, and it costs no more than the plan has steps.

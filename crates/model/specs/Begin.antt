@@ -11,8 +11,8 @@ use Rattle.model.specs.Path.{TimedPath}
 use Rattle.model.specs.State.{Problem, State, with_node}
 
 -- Before anything is made. The open list is as it was handed over.
-abbrev pub fresh : List Pair → ℕ → Outcome → Option Unfitness → State
-fresh pairs room o u = record {
+abbrev pub fresh : List Pair → ℕ → Outcome → State
+fresh pairs room o = record {
   nodes = [];
   pairs = pairs;
   room = room;
@@ -20,7 +20,6 @@ fresh pairs room o u = record {
   turns = 0;
   floor = 0;
   last = 0;
-  unfit = u;
 }
 
 -- Node 0, without condition, is made and put if every carrier has a path.
@@ -30,8 +29,8 @@ with_root (Some xs) st = with_node (root (latest xs)) st
 
 -- What is fit is running, and what is not has stopped.
 abbrev pub begun : Problem → List Pair → ℕ → Option Unfitness → State
-begun p pairs room None = with_root (execution p.site p.task []) (fresh pairs room Running None)
-begun p pairs room (Some u) = fresh pairs room Unfit (Some u)
+begun p pairs room None = with_root (execution p.site p.task []) (fresh pairs room Running)
+begun p pairs room (Some u) = fresh pairs room (Unfit u)
 
 -- `begin` over an open list with these pairs and so much room.
 abbrev pub begin : Problem → List Pair → ℕ → State

@@ -1,5 +1,5 @@
 -- The chosen path, computed.
-use Rattle.std.specs.Prelude.{◌≡◌, ℕ, zero, suc, ◌≤◌, Bool, true, cond, ◌&&◌, ◌||◌, ◌↔◌, List, [], ◌∷◌, map, Some, None, Option, ◌==◌, ◌≢◌, nat_lt, slice_index_or}
+use Rattle.std.specs.Prelude.{◌≡◌, ℕ, zero, suc, ◌≤◌, Bool, true, if◌then◌else◌, ◌&&◌, ◌||◌, ◌↔◌, List, [], ◌∷◌, map, Some, None, Option, ◌==◌, ◌≢◌, nat_lt, slice_index_or}
 use Rattle.std.specs.Bool.{beq}
 use Rattle.std.specs.List.{range_with_len}
 use Rattle.model.specs.declared.item.Condition.{Condition}
@@ -10,7 +10,7 @@ use Rattle.model.specs.Site.{Site, Lawful}
 -- Standing at p at moment m meets each of the carrier's conditions.
 abbrev pub allowed : ℕ → List Condition → ℕ → ℕ → Bool
 allowed a [] m p = true
-allowed a (c ∷ cs) m p = cond (c.carrier == a && c.moment == m) (beq (p == c.place) (must_be c.demand)) true && allowed a cs m p
+allowed a (c ∷ cs) m p = (if c.item.carrier == a && c.moment == m then beq (p == c.item.place) (must_be c.item.demand) else true) && allowed a cs m p
 
 -- The carrier may stand at p at moment m, if it is to be at the goal from moment b on.
 abbrev pub may_stand : Site → Errand → ℕ → ℕ → ℕ → Bool
@@ -21,15 +21,15 @@ may_stand s e b m p = s.is_open p && allowed e.carrier e.conditions m p && (nat_
 abbrev pub onward : (ℕ → Bool) → ℕ → List (Option (List ℕ)) → Option (List ℕ)
 onward move q [] = None
 onward move q (None ∷ ways) = onward move (suc q) ways
-onward move q (Some way ∷ ways) = let later = onward move (suc q) ways in cond (move q) (Some (q ∷ way)) later
+onward move q (Some way ∷ ways) = let later = onward move (suc q) ways in if move q then Some (q ∷ way) else later
 
 -- For each place, the first way from there at moment m, which is k moments before the horizon: the places after it, to the goal,
 -- to be there from moment b on.
 abbrev pub ways : Site → Errand → ℕ → ℕ → ℕ → List (Option (List ℕ))
-ways s e b m zero = map (λ p. cond (may_stand s e b m p && p == e.goal) (Some []) None) (range_with_len 0 s.places)
+ways s e b m zero = map (λ p. if may_stand s e b m p && p == e.goal then Some [] else None) (range_with_len 0 s.places)
 ways s e b m (suc k) =
     let next = ways s e b (suc m) k in
-    map (λ p. let way = onward (s.has_move p) 0 next in cond (may_stand s e b m p) way None) (range_with_len 0 s.places)
+    map (λ p. let way = onward (s.has_move p) 0 next in if may_stand s e b m p then way else None) (range_with_len 0 s.places)
 
 -- The first way from the start to be at the goal from moment b on.
 abbrev pub first_way : Site → Errand → ℕ → Option (List ℕ)
@@ -59,7 +59,7 @@ pub record PathsAreComputed : Type 0 where
   pub every_path_arrives : (s : Site) (e : Errand) (q : List ℕ) → IsPath s e q → (a : ℕ) × Arrives e q a
   pub arrives_once : (e : Errand) (q : List ℕ) (a b : ℕ) → Arrives e q a → Arrives e q b → a ≡ b
   -- One condition more: one on another carrier changes nothing, and none makes the arrival earlier.
-  pub others_do_not_count : (s : Site) (e : Errand) (c : Condition) → Lawful s → (c.carrier ≢ e.carrier)
+  pub others_do_not_count : (s : Site) (e : Errand) (c : Condition) → Lawful s → (c.item.carrier ≢ e.carrier)
       → chosen s e ≡ chosen s (under e (c ∷ e.conditions))
   pub no_sooner : (s : Site) (e : Errand) (c : Condition) (x y : TimedPath) → Lawful s
       → chosen s e ≡ Some x → chosen s (under e (c ∷ e.conditions)) ≡ Some y → x.arrival ≤ y.arrival

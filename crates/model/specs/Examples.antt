@@ -1,7 +1,7 @@
 -- Worked examples on six places, as one table of questions and replies.
-use Rattle.std.specs.Prelude.{◌≡◌, ℕ, cond, List, [], ◌∷◌, map, replicate, ℤ, pos, Some, None, Option, ◌==◌}
+use Rattle.std.specs.Prelude.{◌≡◌, ℕ, if◌then◌else◌, List, [], ◌∷◌, map, replicate, ℤ, pos, Some, None, Option, Ok, Err, Result, ◌==◌}
 use Rattle.model.specs.declared.call.Answer.{Answer}
-use Rattle.model.specs.declared.call.Answer.TheVariants.{Refused, Turns, Looked, Place}
+use Rattle.model.specs.declared.call.Answer.TheVariants.{Turns, Looked, Place}
 use Rattle.model.specs.declared.call.Call.{Call}
 use Rattle.model.specs.declared.call.Call.TheVariants.{Advance, Look as LookAt, Show}
 use Rattle.model.specs.declared.call.Look.{Look}
@@ -14,8 +14,9 @@ use Rattle.model.specs.declared.outcome.Outcome.TheVariants.{Running, Found, NoP
 use Rattle.model.specs.declared.refusal.Refusal.{Refusal}
 use Rattle.model.specs.declared.refusal.Refusal.TheVariants.{TurnsOutOfRange, NoSuchCarrierOrMoment, CostTooHigh, HasStopped, NotFound, ListFull}
 use Rattle.model.specs.Begin.{begin}
-use Rattle.model.specs.Calls.{look_of}
+use Rattle.model.specs.Calls.{look_of, number_in, carrier_in}
 use Rattle.model.specs.Chosen.{chosen}
+use Rattle.model.specs.Item.{at_time}
 use Rattle.model.specs.Nodes.{root, child, conditions_of}
 use Rattle.model.specs.OpenList.{Pair, put_refusal, put}
 use Rattle.model.specs.PairSite.{Network, listed, pair_site}
@@ -45,10 +46,12 @@ pub data Question : Type 0 where
   conditions_at : List Node → ℕ → Question
   one_turn : ℕ → ℕ → Task → Question
 
--- What is replied.
+-- What is replied: how it looks or, where it is unfit, the number of the refusal and the carrier that it names, turns, nodes and floor;
+-- the answers; the items; the path, if there is one; the refusal, if there is one; the pairs; the conditions.
 pub data Reply : Type 0 where
   looks : Look → Reply
-  answers : List Answer → Reply
+  fails : ℕ → ℕ → ℕ → ℕ → ℕ → Reply
+  answers : List (Result Answer Refusal) → Reply
   lists : List Item → Reply
   walks : Option TimedPath → Reply
   refuses : Option Refusal → Reply
@@ -72,7 +75,7 @@ six_places = network_with all_contacts
 
 -- Six places under a window, with these contacts and that reading at place 2. The base has no reading, other places 12.0 degrees.
 abbrev pub site_with : List (ℕ × ℕ) → ℤ → Site
-site_with contacts reading = window (λ p. cond (p == 0) None (Some (cond (p == 2) reading (pos 120)))) (pair_site (network_with contacts))
+site_with contacts reading = window (λ p. if p == 0 then None else Some (if p == 2 then reading else pos 120)) (pair_site (network_with contacts))
 
 -- The six places with 12.0 degrees at all but the base.
 abbrev pub galleries : Site
@@ -93,16 +96,27 @@ put_all (a ∷ ps) = put 4096 a (put_all ps)
 
 -- So many nodes, all without condition, of which node 0 is open at that cost.
 abbrev pub nodes_made : ℕ → ℕ → State
-nodes_made n cost = record { nodes = replicate n (root cost); pairs = (cost, 0) ∷ []; room = 4096; outcome = Running; turns = 0; floor = 0; last = 0; unfit = None }
+nodes_made n cost = record { nodes = replicate n (root cost); pairs = (cost, 0) ∷ []; room = 4096; outcome = Running; turns = 0; floor = 0; last = 0 }
+
+-- How it looks: what is unfit is seen in numbers.
+abbrev pub seen_as : Outcome → Look → Reply
+seen_as Running l = looks l
+seen_as (Found n) l = looks l
+seen_as NoPlan l = looks l
+seen_as Full l = looks l
+seen_as (Unfit u) l = fails (number_in (Unfit u)) (carrier_in (Unfit u)) l.turns l.nodes l.floor
+
+abbrev pub seen : Look → Reply
+seen l = seen_as l.outcome l
 
 -- The definitions' reply.
 abbrev pub reply_to : Question → Reply
 reply_to (planned_by rule s t) =
     let p : Problem = record { site = s; rule = rule; task = t } in
-    looks (look_of p (turns_of p 4097 (begin p [] 4096)))
+    seen (look_of (turns_of p 4097 (begin p [] 4096)))
 reply_to (begun_over pairs room t) =
     let p : Problem = record { site = galleries; rule = three_way; task = t } in
-    looks (look_of p (begin p pairs room))
+    seen (look_of (begin p pairs room))
 reply_to (called t calls) =
     let p : Problem = record { site = galleries; rule = three_way; task = t } in
     answers (answers_to p (begin p [] 4096) calls)
@@ -113,19 +127,19 @@ reply_to (all_put ps) = in_order (put_all ps)
 reply_to (conditions_at ns i) = keeps (conditions_of ns i)
 reply_to (one_turn n cost t) =
     let p : Problem = record { site = galleries; rule = three_way; task = t } in
-    looks (look_of p (turn p (nodes_made n cost)))
+    seen (look_of (turn p (nodes_made n cost)))
 
--- A look: outcome, steps, turns, nodes, floor.
-abbrev pub look_at : Outcome → ℕ → ℕ → ℕ → ℕ → Look
-look_at o steps turns nodes floor = record { outcome = o; turns = turns; nodes = nodes; floor = floor; steps = steps; unfit = 0; carrier = 0 }
+-- A look: outcome, turns, nodes, floor.
+abbrev pub look_at : Outcome → ℕ → ℕ → ℕ → Look
+look_at o turns nodes floor = record { outcome = o; turns = turns; nodes = nodes; floor = floor }
 
--- Outcome, steps, turns, nodes, floor.
-abbrev pub stands : Outcome → ℕ → ℕ → ℕ → ℕ → Reply
-stands o steps turns nodes floor = looks (look_at o steps turns nodes floor)
+-- It is fit: outcome, turns, nodes, floor.
+abbrev pub stands : Outcome → ℕ → ℕ → ℕ → Reply
+stands o turns nodes floor = looks (look_at o turns nodes floor)
 
--- Unfit: the number of the refusal, and the carrier that it names.
+-- It is unfit: the number of the refusal, and the carrier that it names. Nothing has been done.
 abbrev pub unfit : ℕ → ℕ → Reply
-unfit number carrier = looks (record { outcome = Unfit; turns = 0; nodes = 0; floor = 0; steps = 0; unfit = number; carrier = carrier })
+unfit number carrier = fails number carrier 0 0 0
 
 -- A carrier must be at a place, or must not be there.
 abbrev pub at : ℕ → ℕ → Item
@@ -140,10 +154,10 @@ errand_under cs = record { carrier = 1; start = 1; goal = 3; horizon = 4; condit
 
 -- A condition of a carrier, a place and a moment: it must be there then, or must not.
 abbrev pub then_at : ℕ → ℕ → ℕ → Condition
-then_at a p m = record { carrier = a; place = p; moment = m; demand = MustBe }
+then_at a p m = at_time m (at a p)
 
 abbrev pub then_not_at : ℕ → ℕ → ℕ → Condition
-then_not_at a p m = record { carrier = a; place = p; moment = m; demand = MustNotBe }
+then_not_at a p m = at_time m (not_at a p)
 
 -- These places, and the arrival.
 abbrev pub walk : List ℕ → ℕ → Reply
@@ -153,8 +167,8 @@ walk places arrival = walks (Some (record { places = places; arrival = arrival }
 abbrev pub examples : List (Question × Reply)
 examples =
     -- both rules find two steps; Three-way makes one node more
-    (planned_by yields galleries (across 4), stands Found 2 2 3 2) ∷
-    (planned_by three_way galleries (across 4), stands Found 2 2 4 2) ∷
+    (planned_by yields galleries (across 4), stands (Found 2) 2 3 2) ∷
+    (planned_by three_way galleries (across 4), stands (Found 2) 2 4 2) ∷
     -- (2, 5) is out of contact; (1, 4) is not
     (items_at three_way galleries (2 ∷ 5 ∷ []), lists (at 1 0 ∷ at 1 3 ∷ at 1 4 ∷ at 1 5 ∷ at 2 2 ∷ at 2 4 ∷ not_at 1 2 ∷ not_at 2 5 ∷ [])) ∷
     (items_at yields galleries (2 ∷ 5 ∷ []), lists (not_at 1 2 ∷ not_at 2 5 ∷ [])) ∷
@@ -166,32 +180,32 @@ examples =
       keeps (then_not_at 2 5 2 ∷ then_at 1 2 1 ∷ []),
     ) ∷
     -- three children: all of them where the table has room, and else as many as it has room for
-    (one_turn 4093 2 (across 4), stands Running 0 1 4096 2) ∷
-    (one_turn 4094 2 (across 4), stands Full 0 1 4096 2) ∷
-    (one_turn 4096 2 (across 4), stands Full 0 1 4096 2) ∷
+    (one_turn 4093 2 (across 4), stands Running 1 4096 2) ∷
+    (one_turn 4094 2 (across 4), stands Full 1 4096 2) ∷
+    (one_turn 4096 2 (across 4), stands Full 1 4096 2) ∷
     -- out of contact in the last moment only: not found
-    (one_turn 1 1 (task (1 ∷ 4 ∷ []) (2 ∷ 5 ∷ []) 1), stands Running 0 1 1 1) ∷
+    (one_turn 1 1 (task (1 ∷ 4 ∷ []) (2 ∷ 5 ∷ []) 1), stands Running 1 1 1) ∷
     -- without the contact of 2 and 4, by horizons 2 and 3
-    (planned_by yields (site_with without_2_4 (pos 120)) (across 2), stands NoPlan 0 3 2 3) ∷
-    (planned_by three_way (site_with without_2_4 (pos 120)) (across 2), stands NoPlan 0 3 2 3) ∷
-    (planned_by yields (site_with without_2_4 (pos 120)) (across 3), stands NoPlan 0 8 7 4) ∷
-    (planned_by three_way (site_with without_2_4 (pos 120)) (across 3), stands NoPlan 0 12 11 4) ∷
+    (planned_by yields (site_with without_2_4 (pos 120)) (across 2), stands NoPlan 3 2 3) ∷
+    (planned_by three_way (site_with without_2_4 (pos 120)) (across 2), stands NoPlan 3 2 3) ∷
+    (planned_by yields (site_with without_2_4 (pos 120)) (across 3), stands NoPlan 8 7 4) ∷
+    (planned_by three_way (site_with without_2_4 (pos 120)) (across 3), stands NoPlan 12 11 4) ∷
     -- goals equal to starts
-    (planned_by yields galleries (task (1 ∷ 4 ∷ []) (1 ∷ 4 ∷ []) 0), stands Found 0 1 1 0) ∷
-    (planned_by three_way galleries (task (1 ∷ 4 ∷ []) (1 ∷ 4 ∷ []) 0), stands Found 0 1 1 0) ∷
+    (planned_by yields galleries (task (1 ∷ 4 ∷ []) (1 ∷ 4 ∷ []) 0), stands (Found 0) 1 1 0) ∷
+    (planned_by three_way galleries (task (1 ∷ 4 ∷ []) (1 ∷ 4 ∷ []) 0), stands (Found 0) 1 1 0) ∷
     -- readings at place 2 at the ends of what is mild
-    (planned_by yields (site_with all_contacts (pos 49)) (across 4), stands NoPlan 0 1 0 5) ∷
-    (planned_by three_way (site_with all_contacts (pos 49)) (across 4), stands NoPlan 0 1 0 5) ∷
-    (planned_by yields (site_with all_contacts (pos 301)) (across 4), stands NoPlan 0 1 0 5) ∷
-    (planned_by three_way (site_with all_contacts (pos 301)) (across 4), stands NoPlan 0 1 0 5) ∷
-    (planned_by yields (site_with all_contacts (pos 50)) (across 4), stands Found 2 2 3 2) ∷
-    (planned_by three_way (site_with all_contacts (pos 50)) (across 4), stands Found 2 2 4 2) ∷
-    (planned_by yields (site_with all_contacts (pos 300)) (across 4), stands Found 2 2 3 2) ∷
-    (planned_by three_way (site_with all_contacts (pos 300)) (across 4), stands Found 2 2 4 2) ∷
+    (planned_by yields (site_with all_contacts (pos 49)) (across 4), stands NoPlan 1 0 5) ∷
+    (planned_by three_way (site_with all_contacts (pos 49)) (across 4), stands NoPlan 1 0 5) ∷
+    (planned_by yields (site_with all_contacts (pos 301)) (across 4), stands NoPlan 1 0 5) ∷
+    (planned_by three_way (site_with all_contacts (pos 301)) (across 4), stands NoPlan 1 0 5) ∷
+    (planned_by yields (site_with all_contacts (pos 50)) (across 4), stands (Found 2) 2 3 2) ∷
+    (planned_by three_way (site_with all_contacts (pos 50)) (across 4), stands (Found 2) 2 4 2) ∷
+    (planned_by yields (site_with all_contacts (pos 300)) (across 4), stands (Found 2) 2 3 2) ∷
+    (planned_by three_way (site_with all_contacts (pos 300)) (across 4), stands (Found 2) 2 4 2) ∷
     -- goals and starts out of contact
     (planned_by yields galleries (task (1 ∷ 4 ∷ []) (2 ∷ 5 ∷ []) 4), unfit 12 1) ∷
     (planned_by three_way galleries (task (1 ∷ 4 ∷ []) (2 ∷ 5 ∷ []) 4), unfit 12 1) ∷
-    (planned_by three_way galleries (task (4 ∷ 2 ∷ 5 ∷ 3 ∷ []) (4 ∷ 2 ∷ 5 ∷ 3 ∷ []) 4), stands Found 0 1 1 0) ∷
+    (planned_by three_way galleries (task (4 ∷ 2 ∷ 5 ∷ 3 ∷ []) (4 ∷ 2 ∷ 5 ∷ 3 ∷ []) 4), stands (Found 0) 1 1 0) ∷
     (planned_by three_way galleries (task (5 ∷ 2 ∷ 1 ∷ []) (4 ∷ 2 ∷ 1 ∷ []) 4), unfit 11 2) ∷
     -- a start or a goal that is closed: the lowest carrier is named
     (planned_by three_way galleries (task (4 ∷ 0 ∷ 0 ∷ []) (4 ∷ 4 ∷ 4 ∷ []) 4), unfit 10 2) ∷
@@ -199,27 +213,27 @@ examples =
     -- carriers and horizons at their limits; the earlier check is answered
     (planned_by three_way galleries (task [] [] 4), unfit 8 0) ∷
     (planned_by three_way galleries (task (4 ∷ 4 ∷ []) (4 ∷ []) 4), unfit 8 0) ∷
-    (planned_by three_way galleries (task (replicate 8 4) (replicate 8 4) 64), stands Found 0 1 1 0) ∷
+    (planned_by three_way galleries (task (replicate 8 4) (replicate 8 4) 64), stands (Found 0) 1 1 0) ∷
     (planned_by three_way galleries (task (replicate 9 4) (replicate 9 4) 64), unfit 8 0) ∷
     (planned_by three_way galleries (task [] [] 65), unfit 8 0) ∷
     (planned_by three_way galleries (task (0 ∷ []) (0 ∷ []) 65), unfit 9 0) ∷
     (planned_by three_way galleries (task (2 ∷ 5 ∷ []) (0 ∷ 5 ∷ []) 4), unfit 10 1) ∷
     (planned_by three_way galleries (task (5 ∷ 2 ∷ []) (2 ∷ 5 ∷ []) 4), unfit 11 2) ∷
     -- open lists that are not empty, or too small
-    (begun_over [] 4096 (across 4), stands Running 0 0 1 0) ∷
+    (begun_over [] 4096 (across 4), stands Running 0 1 0) ∷
     (begun_over [] 4095 (task [] [] 65), unfit 21 0) ∷
     (begun_over ((0, 0) ∷ []) 4096 (across 4), unfit 21 0) ∷
     -- calls in a row, with those that are refused
     (
       called (across 4) (Advance 0 ∷ Advance 10001 ∷ Show 3 9 ∷ Advance 1 ∷ LookAt ∷ Advance 10000 ∷ LookAt ∷ Advance 1 ∷ Advance 0 ∷ []),
       answers (
-          Refused TurnsOutOfRange ∷ Refused TurnsOutOfRange ∷ Refused NotFound ∷ Turns 1 ∷ Looked (look_at Running 0 1 4 2) ∷
-          Turns 1 ∷ Looked (look_at Found 2 2 4 2) ∷ Refused HasStopped ∷ Refused TurnsOutOfRange ∷ []),
+          Err TurnsOutOfRange ∷ Err TurnsOutOfRange ∷ Err NotFound ∷ Ok (Turns 1) ∷ Ok (Looked (look_at Running 1 4 2)) ∷
+          Ok (Turns 1) ∷ Ok (Looked (look_at (Found 2) 2 4 2)) ∷ Err HasStopped ∷ Err TurnsOutOfRange ∷ []),
     ) ∷ (
       called (across 4) (Advance 2 ∷ Show 1 0 ∷ Show 2 0 ∷ Show 1 1 ∷ Show 2 1 ∷ Show 1 2 ∷ Show 2 2 ∷ Show 0 0 ∷ Show 3 0 ∷ Show 1 3 ∷ []),
       answers (
-          Turns 2 ∷ Place 1 ∷ Place 4 ∷ Place 2 ∷ Place 4 ∷ Place 3 ∷ Place 5 ∷
-          Refused NoSuchCarrierOrMoment ∷ Refused NoSuchCarrierOrMoment ∷ Refused NoSuchCarrierOrMoment ∷ []),
+          Ok (Turns 2) ∷ Ok (Place 1) ∷ Ok (Place 4) ∷ Ok (Place 2) ∷ Ok (Place 4) ∷ Ok (Place 3) ∷ Ok (Place 5) ∷
+          Err NoSuchCarrierOrMoment ∷ Err NoSuchCarrierOrMoment ∷ Err NoSuchCarrierOrMoment ∷ []),
     ) ∷
     -- the chosen path; under conditions; those later than the arrival and those at the goal count, those of another carrier do not
     (path_for galleries (errand_under []), walk (1 ∷ 2 ∷ 3 ∷ 3 ∷ 3 ∷ []) 2) ∷

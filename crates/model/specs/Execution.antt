@@ -1,5 +1,5 @@
 -- Executions: the chosen path of every carrier under given conditions.
-use Rattle.std.specs.Prelude.{◌≡◌, ℕ, zero, suc, ◌<◌, ◌≤◌, max, cond, List, [], ◌∷◌, map, length, get_or, Some, None, Option, slice_index, slice_index_or}
+use Rattle.std.specs.Prelude.{◌≡◌, ℕ, zero, suc, ◌<◌, ◌≤◌, max, if◌then◌else◌, List, [], ◌∷◌, map, length, Some, None, Option, slice_index, slice_index_or}
 use Rattle.model.specs.declared.item.Condition.{Condition}
 use Rattle.model.specs.Chosen.{chosen}
 use Rattle.model.specs.Contact.{Connected, is_connected}
@@ -38,7 +38,7 @@ at_moment xs m = map (λ x. slice_index x.places m) xs
 -- The earliest of the k moments from m on that is out of contact.
 abbrev pub first_break : Site → List TimedPath → ℕ → ℕ → Option ℕ
 first_break s xs m zero = None
-first_break s xs m (suc k) = cond (is_connected s (at_moment xs m)) (first_break s xs (suc m) k) (Some m)
+first_break s xs m (suc k) = if is_connected s (at_moment xs m) then first_break s xs (suc m) k else Some m
 
 -- What is read where there is no such carrier.
 abbrev pub no_path : TimedPath
@@ -53,8 +53,8 @@ pub record ExecutionsAreChosen : Type 0 where
   pub none_lacks_a_path : (s : Site) (t : Task) (cs : List Condition) → Lawful s → execution s t cs ≡ None
       → (i : ℕ) × (i < length t.starts) × ((q : List ℕ) → IsPath s (errand t cs i) q → ⊥)
   -- Its cost is the latest arrival: none is later, and one is then.
-  pub no_arrival_later : (xs : List TimedPath) (i : ℕ) → i < length xs → (get_or xs i no_path).arrival ≤ latest xs
-  pub one_arrives_then : (xs : List TimedPath) → 1 ≤ length xs → (i : ℕ) × (i < length xs) × ((get_or xs i no_path).arrival ≡ latest xs)
+  pub no_arrival_later : (xs : List TimedPath) (i : ℕ) → i < length xs → (slice_index_or xs i no_path).arrival ≤ latest xs
+  pub one_arrives_then : (xs : List TimedPath) → 1 ≤ length xs → (i : ℕ) × (i < length xs) × ((slice_index_or xs i no_path).arrival ≡ latest xs)
   -- The break is the earliest moment out of contact, of those looked at.
   pub broken_first_there : (s : Site) (xs : List TimedPath) (k m : ℕ) → first_break s xs 0 k ≡ Some m
       → (m < k) × (Connected s (at_moment xs m) → ⊥) × ((j : ℕ) → j < m → Connected s (at_moment xs j))

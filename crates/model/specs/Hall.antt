@@ -1,5 +1,5 @@
 -- Halls: grids of cells with walls, in which carriers step to neighbouring cells and hear each other within a radius.
-use Rattle.std.specs.Prelude.{◌≡◌, ℕ, ◌+◌, ◌-◌, ◌*◌, ◌/◌, ◌%◌, ◌<◌, ◌≤◌, Bool, true, false, cond, not, ◌&&◌, ◌↔◌, Ok, Err, Result, nat_le, nat_lt}
+use Rattle.std.specs.Prelude.{◌≡◌, ℕ, ◌+◌, ◌-◌, ◌*◌, ◌/◌, ◌%◌, ◌<◌, ◌≤◌, Bool, true, false, if◌then◌else◌, not, ◌&&◌, ◌↔◌, Ok, Err, Result, nat_le, nat_lt}
 use Rattle.model.specs.declared.refusal.Refusal.{Refusal}
 use Rattle.model.specs.declared.refusal.Refusal.TheVariants.{NumberOutOfRange, GivenTwice}
 use Rattle.model.specs.Limits.{most_places, most_rows, most_columns, most_radius}
@@ -72,7 +72,7 @@ with_wall p g = record { rows = g.rows; columns = g.columns; radius = g.radius; 
 
 -- What is answered to one wall more: a number that is no place is refused first, then a wall that is there already.
 abbrev pub wall_answer : Grid → ℕ → Result (Unit {0}) Refusal
-wall_answer g p = cond (nat_lt p (cells g)) (cond (g.is_wall p) (Err GivenTwice) (Ok tt)) (Err NumberOutOfRange)
+wall_answer g p = if nat_lt p (cells g) then (if g.is_wall p then Err GivenTwice else Ok tt) else Err NumberOutOfRange
 
 -- What is said of halls.
 pub record HallsAreSites : Type 0 where

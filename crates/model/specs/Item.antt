@@ -17,4 +17,4 @@ must_be MustNotBe = false
 
 -- The condition that an item makes at a moment.
 abbrev pub at_time : ℕ → Item → Condition
-at_time m i = record { carrier = i.carrier; place = i.place; moment = m; demand = i.demand }
+at_time m i = record { item = i; moment = m }

@@ -1,5 +1,5 @@
 -- An open list: pairs of a cost and a node's number, by cost and then by number, and how many it has room for.
-use Rattle.std.specs.Prelude.{◌≡◌, ℕ, suc, ◌<◌, ◌≤◌, Bool, cond, ◌&&◌, ◌||◌, ◌⊎◌, List, [], ◌∷◌, length, Some, None, Option, ◌==◌, ◌≢◌, nat_le, nat_lt}
+use Rattle.std.specs.Prelude.{◌≡◌, ℕ, suc, ◌<◌, ◌≤◌, Bool, if◌then◌else◌, ◌&&◌, ◌||◌, ◌⊎◌, List, [], ◌∷◌, length, Some, None, Option, ◌==◌, ◌≢◌, nat_le, nat_lt}
 use mathlib.Core.List.{Memᴰ}
 use Rattle.model.specs.declared.refusal.Refusal.{Refusal}
 use Rattle.model.specs.declared.refusal.Refusal.TheVariants.{CostTooHigh, ListFull}
@@ -26,11 +26,11 @@ precedes a b = nat_lt a.0 b.0 || (a.0 == b.0 && nat_le a.1 b.1)
 -- The pair at its place among those in order.
 abbrev pub insert : Pair → List Pair → List Pair
 insert a [] = a ∷ []
-insert a (b ∷ bs) = cond (precedes a b) (a ∷ b ∷ bs) (b ∷ insert a bs)
+insert a (b ∷ bs) = if precedes a b then a ∷ b ∷ bs else b ∷ insert a bs
 
 -- A cost above the limit is refused, and else a list of that size is if it is full.
 abbrev pub put_refusal : ℕ → ℕ → ℕ → Option Refusal
-put_refusal cost size room = cond (nat_le cost most_steps) (cond (nat_lt size room) None (Some ListFull)) (Some CostTooHigh)
+put_refusal cost size room = if nat_le cost most_steps then (if nat_lt size room then None else Some ListFull) else Some CostTooHigh
 
 -- `put`: the pair is at its place. A refused one leaves the list as it was.
 abbrev pub put : ℕ → Pair → List Pair → List Pair
@@ -49,7 +49,7 @@ rest (a ∷ ps) = ps
 -- How often the pair is in the list.
 abbrev pub times : Pair → List Pair → ℕ
 times x [] = 0
-times x (a ∷ ps) = cond (x.0 == a.0 && x.1 == a.1) (suc (times x ps)) (times x ps)
+times x (a ∷ ps) = if x.0 == a.0 && x.1 == a.1 then suc (times x ps) else times x ps
 
 -- What is said of open lists.
 pub record OpenListsKeepOrder : Type 0 where

@@ -1,5 +1,5 @@
 -- Pair sites: networks of galleries whose moves and contacts are listed pair by pair.
-use Rattle.std.specs.Prelude.{◌≡◌, ℕ, ◌<◌, ◌≤◌, Bool, true, false, cond, ◌&&◌, ◌||◌, ◌⊎◌, ◌↔◌, List, [], ◌∷◌, Ok, Err, Result, ◌==◌, nat_le, nat_lt}
+use Rattle.std.specs.Prelude.{◌≡◌, ℕ, ◌<◌, ◌≤◌, Bool, true, false, if◌then◌else◌, ◌&&◌, ◌||◌, ◌⊎◌, ◌↔◌, List, [], ◌∷◌, Ok, Err, Result, ◌==◌, nat_le, nat_lt}
 use mathlib.Core.List.{Memᴰ}
 use Rattle.model.specs.declared.refusal.Refusal.{Refusal}
 use Rattle.model.specs.declared.refusal.Refusal.TheVariants.{NumberOutOfRange, GivenTwice}
@@ -62,7 +62,7 @@ network_fits n base = nat_le n most_places && nat_lt base n
 -- What is answered to one pair more: a number that is no place is refused first, then a place that is paired with itself or a
 -- pair that is listed already, either way round.
 abbrev pub pair_answer : ℕ → Pairs → ℕ → ℕ → Result (Unit {0}) Refusal
-pair_answer n pairs p q = cond (nat_lt p n && nat_lt q n) (cond (p == q || pairs p q) (Err GivenTwice) (Ok tt)) (Err NumberOutOfRange)
+pair_answer n pairs p q = if nat_lt p n && nat_lt q n then (if p == q || pairs p q then Err GivenTwice else Ok tt) else Err NumberOutOfRange
 
 -- The pairs hold both ways round.
 abbrev pub BothWays : Pairs → Type 0

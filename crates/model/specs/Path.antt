@@ -26,8 +26,8 @@ pub record IsPath (s : Site) (e : Errand) (path : List ℕ) : Type 0 where
   pub ends : slice_index_or path e.horizon 0 ≡ e.goal
   pub moves : (m : ℕ) → m < e.horizon → s.has_move (slice_index path m) (slice_index path (suc m)) ≡ true
   pub through_open : (m : ℕ) → m ≤ e.horizon → s.is_open (slice_index path m) ≡ true
-  pub keeps : (c : Condition) → Memᴰ c e.conditions → c.carrier ≡ e.carrier → c.moment ≤ e.horizon
-      → Meets c.demand c.place (slice_index path c.moment)
+  pub keeps : (c : Condition) → Memᴰ c e.conditions → c.item.carrier ≡ e.carrier → c.moment ≤ e.horizon
+      → Meets c.item.demand c.item.place (slice_index path c.moment)
 
 -- From moment a on the path stays at the goal.
 abbrev pub Stays : Errand → List ℕ → ℕ → Type 0

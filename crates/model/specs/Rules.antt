@@ -1,5 +1,5 @@
 -- The rules Yield and Three-way, computed; all items in order; and what the two rules list, in words.
-use Rattle.std.specs.Prelude.{◌≡◌, ℕ, suc, ◌≤◌, Bool, true, false, cond, not, ◌&&◌, ◌||◌, ◌⊎◌, ◌↔◌, List, [], ◌∷◌, map, length, Some, None, filter, Option, ◌==◌, nat_le, nat_lt}
+use Rattle.std.specs.Prelude.{◌≡◌, ℕ, suc, ◌≤◌, Bool, true, false, if◌then◌else◌, not, ◌&&◌, ◌||◌, ◌⊎◌, ◌↔◌, List, [], ◌∷◌, map, length, Some, None, filter, Option, ◌==◌, nat_le, nat_lt}
 use Rattle.std.specs.List.{range_with_len, flat_map}
 use Rattle.model.specs.declared.item.Demand.{Demand}
 use Rattle.model.specs.declared.item.Demand.TheVariants.{MustBe, MustNotBe}
@@ -47,7 +47,7 @@ other s c a v = s.in_contact (place_of c a) v
 -- is lost itself, and where it hears the lost one if it is another.
 abbrev pub mends : Site → List ℕ → Option ℕ → Item → Bool
 mends s c None i = false
-mends s c (Some a) i = cond (i.carrier == a) (self s c a i.place) (other s c a i.place)
+mends s c (Some a) i = if i.carrier == a then self s c a i.place else other s c a i.place
 
 -- Yield lists that each carrier must not be at its own place.
 abbrev pub yields : Rule

@@ -1,5 +1,5 @@
 -- A site (a topological graph): numbered places with moves and radio contacts between them, one of them the base.
-use Rattle.std.specs.Prelude.{◌≡◌, ℕ, ◌<◌, ◌≤◌, Bool, true, cond, ◌==◌}
+use Rattle.std.specs.Prelude.{◌≡◌, ℕ, ◌<◌, ◌≤◌, Bool, true, if◌then◌else◌, ◌==◌}
 use Rattle.model.specs.Limits.{most_places}
 
 -- A site's whole meaning is what it answers: how many places (vertices) there are, numbered from 0; which of them is the base;
@@ -26,4 +26,4 @@ pub record Lawful (s : Site) : Type 0 where
 
 -- The same answers, but for the place p, where it is v.
 abbrev pub at_place : {A : Type 0} → ℕ → A → (ℕ → A) → ℕ → A
-at_place p v f q = cond (q == p) v (f q)
+at_place p v f q = if q == p then v else f q

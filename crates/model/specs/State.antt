@@ -1,9 +1,8 @@
 -- What is planned, and how far it has come.
-use Rattle.std.specs.Prelude.{ℕ, Bool, true, false, List, [], ◌∷◌, ◌++◌, length, Option}
+use Rattle.std.specs.Prelude.{ℕ, Bool, true, false, List, [], ◌∷◌, ◌++◌, length}
 use Rattle.model.specs.declared.node.Node.{Node}
 use Rattle.model.specs.declared.outcome.Outcome.{Outcome}
 use Rattle.model.specs.declared.outcome.Outcome.TheVariants.{Running, Found, NoPlan, Full, Unfit}
-use Rattle.model.specs.declared.outcome.Unfitness.{Unfitness}
 use Rattle.model.specs.OpenList.{Pair, put}
 use Rattle.model.specs.Plan.{Task}
 use Rattle.model.specs.Rule.{Rule}
@@ -16,7 +15,7 @@ pub record Problem : Type 0 where
   pub task : Task
 
 -- The nodes made so far, by number; the pairs of the open list, and how many it has room for; the outcome; the turns made;
--- the floor (a lower bound of the steps of every plan); the number of the node last taken; and, where it is unfit, why.
+-- the floor (a lower bound of the steps of every plan); and the number of the node last taken.
 pub record State : Type 0 where
   pub nodes : List Node
   pub pairs : List Pair
@@ -25,31 +24,30 @@ pub record State : Type 0 where
   pub turns : ℕ
   pub floor : ℕ
   pub last : ℕ
-  pub unfit : Option Unfitness
 
 -- Turns can be made.
 abbrev pub is_running : Outcome → Bool
 is_running Running = true
-is_running Found = false
+is_running (Found n) = false
 is_running NoPlan = false
 is_running Full = false
-is_running Unfit = false
+is_running (Unfit u) = false
 
 -- There is a plan to show.
 abbrev pub is_found : Outcome → Bool
 is_found Running = false
-is_found Found = true
+is_found (Found n) = true
 is_found NoPlan = false
 is_found Full = false
-is_found Unfit = false
+is_found (Unfit u) = false
 
 -- The table of nodes is full.
 abbrev pub is_full : Outcome → Bool
 is_full Running = false
-is_full Found = false
+is_full (Found n) = false
 is_full NoPlan = false
 is_full Full = true
-is_full Unfit = false
+is_full (Unfit u) = false
 
 -- The same with another outcome.
 abbrev pub with_outcome : Outcome → State → State
@@ -61,7 +59,6 @@ with_outcome o st = record {
   turns = st.turns;
   floor = st.floor;
   last = st.last;
-  unfit = st.unfit;
 }
 
 -- One node more, under the next number, and put.
@@ -74,5 +71,4 @@ with_node n st = record {
   turns = st.turns;
   floor = st.floor;
   last = st.last;
-  unfit = st.unfit;
 }

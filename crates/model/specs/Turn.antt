@@ -1,5 +1,5 @@
 -- One turn, step by step, and turns in a row.
-use Rattle.std.specs.Prelude.{ℕ, zero, suc, cond, List, [], ◌∷◌, length, Some, None, Option, nat_lt}
+use Rattle.std.specs.Prelude.{ℕ, zero, suc, if◌then◌else◌, List, [], ◌∷◌, length, Some, None, Option, nat_lt}
 use Rattle.model.specs.declared.item.Condition.{Condition}
 use Rattle.model.specs.declared.item.Item.{Item}
 use Rattle.model.specs.declared.outcome.Outcome.TheVariants.{Found, NoPlan, Full}
@@ -16,21 +16,21 @@ use Rattle.model.specs.State.{Problem, State, is_running, is_full, with_outcome,
 -- put, if every carrier has a path. If the number would be 4,096, the table is full.
 abbrev pub add_child : ℕ → Condition → Option (List TimedPath) → State → State
 add_child i c None st = st
-add_child i c (Some xs) st = cond (nat_lt (length st.nodes) most_nodes) (with_node (child i c (latest xs)) st) (with_outcome Full st)
+add_child i c (Some xs) st = if nat_lt (length st.nodes) most_nodes then with_node (child i c (latest xs)) st else with_outcome Full st
 
 -- Step 4: node i, whose conditions are cs, is out of contact at moment m in the configuration c. Each item that is listed makes a
 -- child, until the table is full.
 abbrev pub split : Problem → ℕ → List Condition → ℕ → List ℕ → List Item → State → State
 split p i cs m c [] st = st
 split p i cs m c (it ∷ its) st =
-    cond (is_full st.outcome) st
-    (split p i cs m c its
-    (cond (p.rule p.site c it) (add_child i (at_time m it) (execution p.site p.task (at_time m it ∷ cs)) st) st))
+    if is_full st.outcome then st else
+    split p i cs m c its
+    (if p.rule p.site c it then add_child i (at_time m it) (execution p.site p.task (at_time m it ∷ cs)) st else st)
 
--- Steps 2 and 3: node i, with these paths, is a plan if nothing breaks contact; else the earliest moment out of contact is split,
--- by all items in order.
+-- Steps 2 and 3: node i, with these paths, is a plan of as many steps as the latest arrival if nothing breaks contact; else the
+-- earliest moment out of contact is split, by all items in order.
 abbrev pub expand : Problem → ℕ → List Condition → List TimedPath → Option ℕ → State → State
-expand p i cs xs None st = with_outcome Found st
+expand p i cs xs None st = with_outcome (Found (latest xs)) st
 expand p i cs xs (Some m) st = split p i cs m (at_moment xs m) (items (length p.task.starts) p.site.places) st
 
 -- The moments up to its cost are looked at. (Where there are no paths, nothing more is done; no node is made without.)
@@ -48,7 +48,6 @@ taken a left st = record {
   turns = suc st.turns;
   floor = a.0;
   last = a.1;
-  unfit = st.unfit;
 }
 
 -- or no pair was there to take, and there is no plan.
@@ -61,7 +60,6 @@ exhausted p st = record {
   turns = suc st.turns;
   floor = suc p.task.horizon;
   last = st.last;
-  unfit = st.unfit;
 }
 
 -- The turn, by what was taken and what is left.
@@ -77,4 +75,4 @@ turn p st = turn_on p (first st.pairs) (rest st.pairs) st
 -- n turns, or fewer if it stops.
 abbrev pub turns_of : Problem → ℕ → State → State
 turns_of p zero st = st
-turns_of p (suc n) st = cond (is_running st.outcome) (turns_of p n (turn p st)) st
+turns_of p (suc n) st = if is_running st.outcome then turns_of p n (turn p st) else st

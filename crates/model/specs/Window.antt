@@ -1,5 +1,5 @@
 -- Windows: temperature readings over a site, which close the places where gauges cannot be calibrated.
-use Rattle.std.specs.Prelude.{ℕ, Bool, false, cond, ◌&&◌, ℤ, Some, None, Ok, Err, Option, Result, int_le, nat_lt}
+use Rattle.std.specs.Prelude.{ℕ, Bool, false, if◌then◌else◌, ◌&&◌, ℤ, Some, None, Ok, Err, Option, Result, int_le, nat_lt}
 use Rattle.model.specs.declared.refusal.Refusal.{Refusal}
 use Rattle.model.specs.declared.refusal.Refusal.TheVariants.{NoSuchPlaceOrReading}
 use Rattle.model.specs.Limits.{lowest_reading, highest_reading, coolest_open, warmest_open}
@@ -35,7 +35,7 @@ window readings s = record {
 
 -- What is answered to a reading: it is stored at a place, from -40.0 to 60.0 degrees, and refused otherwise.
 abbrev pub set_answer : Site → ℕ → ℤ → Result (Unit {0}) Refusal
-set_answer s p t = cond (nat_lt p s.places && int_le lowest_reading t && int_le t highest_reading) (Ok tt) (Err NoSuchPlaceOrReading)
+set_answer s p t = if nat_lt p s.places && int_le lowest_reading t && int_le t highest_reading then Ok tt else Err NoSuchPlaceOrReading
 
 -- A window over a lawful site is lawful.
 abbrev pub WindowsAreSites : Type 0

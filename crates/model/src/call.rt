@@ -1,6 +1,5 @@
 //! Calls, and what they answer.
 use crate::outcome::Outcome;
-use crate::refusal::Refusal;
 
 /// A call: so many turns; a look; the place of a carrier at a moment of the found plan.
 #[derive(Clone, Copy, PartialEq, Eq, Debug)]
@@ -10,23 +9,19 @@ pub enum Call {
     Show { carrier: usize, moment: usize },
 }
 
-/// What a look answers. `steps` is 0 unless a plan is found; `unfit` is the number of the refusal that makes it unfit, and
-/// `carrier` the carrier that it names, both 0 where there is none.
+/// What a look answers: how it stands, the turns made, the nodes made, and the floor.
 #[derive(Clone, Copy, PartialEq, Eq, Debug)]
 pub struct Look {
     pub outcome: Outcome,
     pub turns: usize,
     pub nodes: usize,
     pub floor: usize,
-    pub steps: usize,
-    pub unfit: usize,
-    pub carrier: usize,
 }
 
-/// What a call answers: that it is refused; or how many turns were made; what was looked at; the place that was asked for.
+/// What an accepted call answers: how many turns were made; what was looked at; the place that was asked for. A call that is not
+/// accepted answers its refusal in the place of this.
 #[derive(Clone, Copy, PartialEq, Eq, Debug)]
 pub enum Answer {
-    Refused(Refusal),
     Turns(usize),
     Looked(Look),
     Place(usize),

@@ -20,8 +20,6 @@ pub struct Item {
 /// An item at a moment (a constraint).
 #[derive(Clone, Copy, PartialEq, Eq, Debug)]
 pub struct Condition {
-    pub carrier: usize,
-    pub place: usize,
+    pub item: Item,
     pub moment: usize,
-    pub demand: Demand,
 }

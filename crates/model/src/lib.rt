@@ -25,99 +25,71 @@ ghost use Rattle.model.specs.Run.{RunsAreDetermined};
 ghost use Rattle.model.specs.Window.{WindowsAreSites};
 
 /// Pair sites are sites, with exactly the listed pairs.
-pub fn pair_sites_are_sites() -> u8
+pub fn pair_sites_are_sites()
     ensures { PairSitesAreSites }
-{
-    0
-}
+{}
 
 /// Halls are sites, with the moves and contacts of a grid.
-pub fn halls_are_sites() -> u8
+pub fn halls_are_sites()
     ensures { HallsAreSites }
-{
-    0
-}
+{}
 
 /// Windows over sites are sites.
-pub fn windows_are_sites() -> u8
+pub fn windows_are_sites()
     ensures { WindowsAreSites }
-{
-    0
-}
+{}
 
 /// Contact as it is computed is contact as it is defined.
-pub fn contact_is_computed() -> u8
+pub fn contact_is_computed()
     ensures { ContactIsComputed }
-{
-    0
-}
+{}
 
 /// Whoever is reached has a chain of contacts from the base.
-pub fn chains_reach() -> u8
+pub fn chains_reach()
     ensures { ChainsReach }
-{
-    0
-}
+{}
 
 /// The path that is computed is the chosen one.
-pub fn paths_are_computed() -> u8
+pub fn paths_are_computed()
     ensures { PathsAreComputed }
-{
-    0
-}
+{}
 
 /// Yield and Three-way are splitting rules.
-pub fn rules_keep_the_laws() -> u8
+pub fn rules_keep_the_laws()
     ensures { RulesKeepTheLaws }
-{
-    0
-}
+{}
 
 /// An execution has every carrier's chosen path, its cost is the latest arrival, and its break the earliest.
-pub fn executions_are_chosen() -> u8
+pub fn executions_are_chosen()
     ensures { ExecutionsAreChosen }
-{
-    0
-}
+{}
 
 /// An open list stays in order, and a put adds the one pair and nothing else.
-pub fn open_lists_keep_order() -> u8
+pub fn open_lists_keep_order()
     ensures { OpenListsKeepOrder }
-{
-    0
-}
+{}
 
 /// The checks of a task find nothing exactly where it is fit, and name the lowest carrier.
-pub fn fitness_is_checked() -> u8
+pub fn fitness_is_checked()
     ensures { FitnessIsChecked }
-{
-    0
-}
+{}
 
 /// Every list of calls has one run, and runs join.
-pub fn runs_are_determined() -> u8
+pub fn runs_are_determined()
     ensures { RunsAreDetermined }
-{
-    0
-}
+{}
 
 /// Every run of calls that began new keeps the guarantee.
-pub fn runs_keep_the_guarantee() -> u8
+pub fn runs_keep_the_guarantee()
     ensures { Guaranteed }
-{
-    0
-}
+{}
 
 /// Whatever is called of one that began fit, no put is refused.
-pub fn no_put_is_refused() -> u8
+pub fn no_put_is_refused()
     ensures { NoPutIsRefused }
-{
-    0
-}
+{}
 
 /// The worked examples hold of the definitions.
-pub fn examples_hold() -> u8
+pub fn examples_hold()
     ensures { ExamplesHold }
-{
-    0
-}
+{}

@@ -1,11 +1,17 @@
 //! Nodes of the tree of conditions.
 use crate::item::Condition;
 
-/// A node (of the constraint tree): its parent's number, its own condition, and its cost, which is the latest arrival of its
-/// paths. Node 0 has no condition, and counts as its own parent.
+/// How a node hangs on another: its parent's number, and the condition that it has besides those of its parent.
+#[derive(Clone, Copy, PartialEq, Eq, Debug)]
+pub struct Branch {
+    pub parent: usize,
+    pub condition: Condition,
+}
+
+/// A node (of the constraint tree): how it hangs on its parent, and its cost, which is the latest arrival of its paths. Node 0 is
+/// the root and hangs on nothing.
 #[derive(Clone, Copy, PartialEq, Eq, Debug)]
 pub struct Node {
-    pub parent: usize,
-    pub condition: Option<Condition>,
+    pub branch: Option<Branch>,
     pub cost: usize,
 }

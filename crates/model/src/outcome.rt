@@ -6,19 +6,19 @@ use crate::refusal::Refusal;
 pub enum Outcome {
     /// Turns can be made.
     Running,
-    /// The node last taken is a plan.
-    Found,
+    /// The node last taken is a plan of so many steps.
+    Found { steps: usize },
     /// No plan within the horizon exists ("none").
     NoPlan,
     /// The table of nodes is full.
     Full,
     /// The task or the open list was not fit to begin with.
-    Unfit,
+    Unfit(Unfitness),
 }
 
-/// Why a task or an open list is unfit, and which carrier is named; 0 where none is.
+/// Why a task or an open list is unfit, and the carrier that is named, if one is.
 #[derive(Clone, Copy, PartialEq, Eq, Debug)]
 pub struct Unfitness {
     pub refusal: Refusal,
-    pub carrier: usize,
+    pub carrier: Option<usize>,
 }

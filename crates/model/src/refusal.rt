@@ -9,35 +9,35 @@ use std::fmt;
 #[derive(Clone, Copy, PartialEq, Eq, Debug)]
 pub enum Refusal {
     /// A number is out of its range.
-    NumberOutOfRange,
+    NumberOutOfRange = 5,
     /// A pair or a wall is given twice, or a place is paired with itself.
-    GivenTwice,
+    GivenTwice = 6,
     /// There are not 1 to 8 carriers, or not as many goals as starts.
-    CrewUnfit,
+    CrewUnfit = 8,
     /// The horizon is above 64.
-    HorizonTooFar,
+    HorizonTooFar = 9,
     /// A start or a goal is not open.
-    StartOrGoalClosed,
+    StartOrGoalClosed = 10,
     /// The starts are out of contact.
-    StartsOutOfContact,
+    StartsOutOfContact = 11,
     /// The goals are out of contact.
-    GoalsOutOfContact,
+    GoalsOutOfContact = 12,
     /// The turns asked for are not 1 to 10,000.
-    TurnsOutOfRange,
+    TurnsOutOfRange = 13,
     /// There is no such carrier, or the moment is above the steps.
-    NoSuchCarrierOrMoment,
+    NoSuchCarrierOrMoment = 14,
     /// There is no such place, or the reading is not from -400 to 600.
-    NoSuchPlaceOrReading,
+    NoSuchPlaceOrReading = 16,
     /// The cost is above 64.
-    CostTooHigh,
+    CostTooHigh = 17,
     /// The open list is not empty, or has room for fewer than 4,096 pairs.
-    ListUnfit,
+    ListUnfit = 21,
     /// It has stopped and makes no more turns.
-    HasStopped,
+    HasStopped = 22,
     /// No plan has been found that could be shown.
-    NotFound,
+    NotFound = 23,
     /// The open list is full.
-    ListFull,
+    ListFull = 24,
 }
 
 impl Refusal {
@@ -45,23 +45,7 @@ impl Refusal {
     pub fn number(self) -> usize
         ensures { result ≡ number_of self }
     {
-        match self {
-            Refusal::NumberOutOfRange => 5,
-            Refusal::GivenTwice => 6,
-            Refusal::CrewUnfit => 8,
-            Refusal::HorizonTooFar => 9,
-            Refusal::StartOrGoalClosed => 10,
-            Refusal::StartsOutOfContact => 11,
-            Refusal::GoalsOutOfContact => 12,
-            Refusal::TurnsOutOfRange => 13,
-            Refusal::NoSuchCarrierOrMoment => 14,
-            Refusal::NoSuchPlaceOrReading => 16,
-            Refusal::CostTooHigh => 17,
-            Refusal::ListUnfit => 21,
-            Refusal::HasStopped => 22,
-            Refusal::NotFound => 23,
-            Refusal::ListFull => 24,
-        }
+        self as usize
     }
 
     /// The reason in words.
