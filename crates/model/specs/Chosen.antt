@@ -54,7 +54,7 @@ pub record PathsAreComputed : Type 0 where
   -- The path that is computed is the chosen one, of which there is at most one; and none is computed exactly if there is no path.
   pub computed_is_chosen : (s : Site) (e : Errand) (x : TimedPath) → Lawful s → (chosen s e ≡ Some x) ↔ IsChosen s e x
   pub only_one : (s : Site) (e : Errand) (x y : TimedPath) → IsChosen s e x → IsChosen s e y → x ≡ y
-  pub none_is_no_path : (s : Site) (e : Errand) → Lawful s → (chosen s e ≡ None) ↔ ((q : List ℕ) → IsPath s e q → ⊥)
+  pub none_is_no_path : (s : Site) (e : Errand) → Lawful s → (chosen s e ≡ None) ↔ ((q : List ℕ) → ¬ IsPath s e q)
   -- Every path has one arrival.
   pub every_path_arrives : (s : Site) (e : Errand) (q : List ℕ) → IsPath s e q → (a : ℕ) × Arrives e q a
   pub arrives_once : (e : Errand) (q : List ℕ) (a b : ℕ) → Arrives e q a → Arrives e q b → a ≡ b

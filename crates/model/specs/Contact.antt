@@ -66,4 +66,4 @@ pub record ContactIsComputed : Type 0 where
   pub connected_is_contact : (s : Site) (c : List ℕ) → (is_connected s c ≡ true) ↔ Connected s c
   -- The lost carrier is not reached, and every lower-numbered one is.
   pub lost_is_lowest : (s : Site) (c : List ℕ) (k : ℕ) → lost s c ≡ Some k
-      → (i : ℕ) × (k ≡ suc i) × (i < length c) × (Reached s c i → ⊥) × ((j : ℕ) → j < i → Reached s c j)
+      → (i : ℕ) × (k ≡ suc i) × (i < length c) × (¬ Reached s c i) × ((j : ℕ) → j < i → Reached s c j)

@@ -51,11 +51,11 @@ pub record ExecutionsAreChosen : Type 0 where
   pub each_is_chosen : (s : Site) (t : Task) (cs : List Condition) (xs : List TimedPath) → Lawful s → execution s t cs ≡ Some xs
       → (i : ℕ) → i < length t.starts → IsChosen s (errand t cs i) (slice_index_or xs i no_path)
   pub none_lacks_a_path : (s : Site) (t : Task) (cs : List Condition) → Lawful s → execution s t cs ≡ None
-      → (i : ℕ) × (i < length t.starts) × ((q : List ℕ) → IsPath s (errand t cs i) q → ⊥)
+      → (i : ℕ) × (i < length t.starts) × ((q : List ℕ) → ¬ IsPath s (errand t cs i) q)
   -- Its cost is the latest arrival: none is later, and one is then.
   pub no_arrival_later : (xs : List TimedPath) (i : ℕ) → i < length xs → (slice_index_or xs i no_path).arrival ≤ latest xs
   pub one_arrives_then : (xs : List TimedPath) → 1 ≤ length xs → (i : ℕ) × (i < length xs) × ((slice_index_or xs i no_path).arrival ≡ latest xs)
   -- The break is the earliest moment out of contact, of those looked at.
   pub broken_first_there : (s : Site) (xs : List TimedPath) (k m : ℕ) → first_break s xs 0 k ≡ Some m
-      → (m < k) × (Connected s (at_moment xs m) → ⊥) × ((j : ℕ) → j < m → Connected s (at_moment xs j))
+      → (m < k) × (¬ Connected s (at_moment xs m)) × ((j : ℕ) → j < m → Connected s (at_moment xs j))
   pub never_broken : (s : Site) (xs : List TimedPath) (k : ℕ) → first_break s xs 0 k ≡ None → (j : ℕ) → j < k → Connected s (at_moment xs j)

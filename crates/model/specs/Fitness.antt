@@ -79,7 +79,7 @@ pub record FitnessIsChecked : Type 0 where
   -- The check of the places names the lowest carrier whose start or goal is not open.
   pub lowest_closed_is_named : (s : Site) (t : Task) (u : Unfitness) → length t.starts ≡ length t.goals
       → check_places s 1 t.starts t.goals ≡ Some u
-      → (i : ℕ) × (u ≡ record { refusal = StartOrGoalClosed; carrier = Some (suc i) }) × (i < length t.starts) × (EndsOpen s t i → ⊥) × ((j : ℕ) → j < i → EndsOpen s t j)
+      → (i : ℕ) × (u ≡ record { refusal = StartOrGoalClosed; carrier = Some (suc i) }) × (i < length t.starts) × (¬ EndsOpen s t i) × ((j : ℕ) → j < i → EndsOpen s t j)
   -- No plan is turned away by the checks of places and contact: the starts and goals of a task that has a plan pass them.
   pub no_plan_is_turned_away : (s : Site) (t : Task) (steps : ℕ) (plan : ℕ → List ℕ) → IsPlan s t steps plan
       → AtOpenPlaces s t.starts × AtOpenPlaces s t.goals × Connected s t.starts × Connected s t.goals

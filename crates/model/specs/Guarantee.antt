@@ -1,5 +1,5 @@
 -- The guarantee: what every run of calls keeps that began new.
-use Rattle.std.specs.Prelude.{◌≡◌, ℕ, suc, ◌+◌, ◌≤◌, ◌↔◌, List, ◌∷◌, ◌++◌, length, Some, None, Ok, Err, Result, ◌≢◌, slice_get}
+use Rattle.std.specs.Prelude.{◌≡◌, ℕ, suc, ◌+◌, ◌≤◌, ◌↔◌, List, ◌∷◌, ◌++◌, length, Some, None, Ok, Err, Result, ◌≢◌, slice_get, ⊤}
 use Rattle.model.specs.declared.call.Answer.{Answer}
 use Rattle.model.specs.declared.call.Call.{Call}
 use Rattle.model.specs.declared.outcome.Outcome.{Outcome}
@@ -62,7 +62,7 @@ EachNodeWasPut st Running = st.turns + length st.pairs ≡ length st.nodes
 EachNodeWasPut st (Found n) = st.turns + length st.pairs ≡ length st.nodes
 EachNodeWasPut st Full = st.turns + length st.pairs ≡ length st.nodes
 EachNodeWasPut st NoPlan = st.turns + length st.pairs ≡ suc (length st.nodes)
-EachNodeWasPut st (Unfit u) = Unit {0}
+EachNodeWasPut st (Unfit u) = ⊤
 
 -- Whatever is called of one that began fit, no put is refused.
 abbrev pub NoPutIsRefused : Type 0

@@ -1,5 +1,5 @@
 -- An open list: pairs of a cost and a node's number, by cost and then by number, and how many it has room for.
-use Rattle.std.specs.Prelude.{◌≡◌, ℕ, suc, ◌<◌, ◌≤◌, Bool, if◌then◌else◌, ◌&&◌, ◌||◌, ◌⊎◌, List, [], ◌∷◌, length, Some, None, Option, ◌==◌, ◌≢◌, nat_le, nat_lt}
+use Rattle.std.specs.Prelude.{◌≡◌, ℕ, suc, ◌<◌, ◌≤◌, Bool, if◌then◌else◌, ◌&&◌, ◌||◌, ◌⊎◌, List, [], ◌∷◌, length, Some, None, Option, ◌==◌, ◌≢◌, nat_le, nat_lt, ⊤}
 use mathlib.Core.List.{Memᴰ}
 use Rattle.model.specs.declared.refusal.Refusal.{Refusal}
 use Rattle.model.specs.declared.refusal.Refusal.TheVariants.{CostTooHigh, ListFull}
@@ -16,7 +16,7 @@ Before a b = (a.0 < b.0) ⊎ ((a.0 ≡ b.0) × (a.1 ≤ b.1))
 
 -- Every pair may stand before all those behind it.
 abbrev pub InOrder : List Pair → Type 0
-InOrder [] = Unit {0}
+InOrder [] = ⊤
 InOrder (a ∷ ps) = ((b : Pair) → Memᴰ b ps → Before a b) × InOrder ps
 
 -- The same as `Before`, computed.

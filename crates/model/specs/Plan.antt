@@ -21,7 +21,7 @@ pub record IsPlan (s : Site) (t : Task) (steps : ℕ) (plan : ℕ → List ℕ) 
 
 -- No plan within the horizon exists.
 abbrev pub NoPlanExists : Site → Task → Type 0
-NoPlanExists s t = (steps : ℕ) (plan : ℕ → List ℕ) → steps ≤ t.horizon → IsPlan s t steps plan → ⊥
+NoPlanExists s t = (steps : ℕ) (plan : ℕ → List ℕ) → steps ≤ t.horizon → ¬ IsPlan s t steps plan
 
 -- No plan, however long, has fewer steps.
 abbrev pub NoPlanBelow : Site → Task → ℕ → Type 0

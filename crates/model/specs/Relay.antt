@@ -21,7 +21,7 @@ pub record LastRelay (s : Site) (c : List ℕ) (i j : ℕ) : Type 0 where
 
 -- Whom the carrier at index i hears last: nobody if it is not reached; the base if it is in contact with that; else its last relay.
 abbrev pub RelayedBy : Site → List ℕ → ℕ → Option Relay → Type 0
-RelayedBy s c i None = Reached s c i → ⊥
+RelayedBy s c i None = ¬ Reached s c i
 RelayedBy s c i (Some Base) = (i < length c) × (s.in_contact s.base (slice_index c i) ≡ true)
 RelayedBy s c i (Some (Carrier zero)) = ⊥
 RelayedBy s c i (Some (Carrier (suc j))) = (i < length c) × LastRelay s c i j

@@ -35,7 +35,7 @@ pub record RuleLaws (rule : Rule) : Type 0 where
   pub quiet : (s : Site) (c : List ℕ) (i : Item) → Lawful s → Connected s c → rule s c i ≡ false
   -- Of a configuration out of contact: every configuration of the same carriers at open places that is in contact meets at
   -- least one listed item (cover),
-  pub cover : (s : Site) (c d : List ℕ) → Lawful s → (Connected s c → ⊥) → AtPlaces s c → length d ≡ length c → AtOpenPlaces s d → Connected s d
+  pub cover : (s : Site) (c d : List ℕ) → Lawful s → (¬ Connected s c) → AtPlaces s c → length d ≡ length c → AtOpenPlaces s d → Connected s d
       → (i : Item) × (rule s c i ≡ true) × MeetsItem d i
   -- and it meets none itself (bite).
-  pub bite : (s : Site) (c : List ℕ) (i : Item) → Lawful s → rule s c i ≡ true → MeetsItem c i → ⊥
+  pub bite : (s : Site) (c : List ℕ) (i : Item) → Lawful s → rule s c i ≡ true → ¬ MeetsItem c i

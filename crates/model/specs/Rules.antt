@@ -1,5 +1,5 @@
 -- The rules Yield and Three-way, computed; all items in order; and what the two rules list, in words.
-use Rattle.std.specs.Prelude.{◌≡◌, ℕ, suc, ◌≤◌, Bool, true, false, if◌then◌else◌, not, ◌&&◌, ◌||◌, ◌⊎◌, ◌↔◌, List, [], ◌∷◌, map, length, Some, None, filter, Option, ◌==◌, nat_le, nat_lt}
+use Rattle.std.specs.Prelude.{◌≡◌, ℕ, suc, ◌≤◌, Bool, true, false, if◌then◌else◌, not, ◌&&◌, ◌||◌, ◌⊎◌, ◌↔◌, List, [], ◌∷◌, map, length, Some, None, filter, Option, ◌==◌, nat_le, nat_lt, ◌≢◌}
 use Rattle.std.specs.List.{range_with_len, flat_map}
 use Rattle.model.specs.declared.item.Demand.{Demand}
 use Rattle.model.specs.declared.item.Demand.TheVariants.{MustBe, MustNotBe}
@@ -84,14 +84,14 @@ pub record IsYield (c : List ℕ) (i : Item) : Type 0 where
 pub record HeardBy (s : Site) (c : List ℕ) (a v b : ℕ) : Type 0 where
   pub from_one : 1 ≤ b
   pub carrier : b ≤ length c
-  pub another : b ≡ a → ⊥
+  pub another : b ≢ a
   pub contact : s.in_contact (place_of c b) v ≡ true
 
 -- An item SELF: the lost carrier must be at a place, but not its own, in contact with the base or with another carrier's place.
 pub record IsSelf (s : Site) (c : List ℕ) (i : Item) : Type 0 where
   pub must_be : i.demand ≡ MustBe
   pub lost_itself : lost s c ≡ Some i.carrier
-  pub elsewhere : i.place ≡ place_of c i.carrier → ⊥
+  pub elsewhere : i.place ≢ place_of c i.carrier
   pub heard : (s.in_contact s.base i.place ≡ true) ⊎ ((b : ℕ) × HeardBy s c i.carrier i.place b)
 
 -- An item OTHER: another carrier than the lost one must be at a place, but not its own, in contact with the lost one's place.
@@ -99,14 +99,14 @@ pub record IsOther (s : Site) (c : List ℕ) (i : Item) : Type 0 where
   pub must_be : i.demand ≡ MustBe
   pub lost_one : ℕ
   pub lost_is : lost s c ≡ Some lost_one
-  pub another : i.carrier ≡ lost_one → ⊥
-  pub elsewhere : i.place ≡ place_of c i.carrier → ⊥
+  pub another : i.carrier ≢ lost_one
+  pub elsewhere : i.place ≢ place_of c i.carrier
   pub heard : s.in_contact (place_of c lost_one) i.place ≡ true
 
 -- A rule lists an item only where all numbers are in range and the configuration is out of contact.
 pub record Speaks (s : Site) (c : List ℕ) (i : Item) : Type 0 where
   pub range : InRange s c i
-  pub out_of_contact : Connected s c → ⊥
+  pub out_of_contact : ¬ Connected s c
 
 -- What is said of the two rules: they keep the laws of a rule, and list exactly these items.
 pub record RulesKeepTheLaws : Type 0 where
