@@ -1,9 +1,7 @@
 -- Pair sites are lawful, and have exactly the listed pairs.
-use Rattle.std.proofs.Common.{◌≡◌, ℕ, ◌<◌, ◌≤◌, true, ◌&&◌, ◌||◌, eqb, ◌⊎◌, ◌↔◌, List, [], ◌∷◌, refl, ap, inl, inr, ⊎_elim, arith}
-use mathlib.Core.Bool.{false≢true}
+use Rattle.std.proofs.Common.{◌≡◌, ℕ, ◌<◌, ◌≤◌, true, ◌⊎◌, ◌↔◌, List, [], ◌∷◌, refl, ⊎_elim, arith}
 use mathlib.Core.List.Memᴰ
 use mathlib.Core.List.{Memᴰ}
-use Rattle.std.proofs.lemmas.Bool.{and_parts, and_from, or_cases, or_left, or_right, eqb-true, eq-eqb}
 use Rattle.std.proofs.lemmas.Bool.Decides.{nat_tests}
 use Rattle.model.specs.Limits.{most_places}
 use Rattle.model.specs.Site.{Lawful}
@@ -37,30 +35,15 @@ listed_both_ways ((p, q) ∷ list) a b = with_pair_both_ways p q (listed list) (
 abbrev Stands : List (ℕ × ℕ) → ℕ → ℕ → Type 0
 Stands list p q = Memᴰ (p, q) list ⊎ Memᴰ (q, p) list
 
-stands_later : (pair : ℕ × ℕ) (list : List (ℕ × ℕ)) (p q : ℕ) → Stands list p q → Stands (pair ∷ list) p q
-stands_later pair list p q = ⊎_elim (λ m. inl (Memᴰ.tail m)) (λ m. inr (Memᴰ.tail m))
-
-stands_first : (a b : ℕ) (list : List (ℕ × ℕ)) (p q : ℕ) → ((eqb p a && eqb q b) || (eqb p b && eqb q a)) ≡ true → Stands ((a, b) ∷ list) p q
-stands_first a b list p q e = ⊎_elim (λ t. inl (Memᴰ.head (same p q t))) (λ t. inr (Memᴰ.head (same q p (turned t)))) (or_cases _ _ e)
-  where
-    same : (x y : ℕ) → (eqb x a && eqb y b) ≡ true → ◌≡◌ {A = ℕ × ℕ} (x, y) (a, b)
-    same x y t = let (s, u) = and_parts _ _ t in λ i. (eqb-true x a s i, eqb-true y b u i)
-
-    turned : (eqb p b && eqb q a) ≡ true → (eqb q a && eqb p b) ≡ true
-    turned t = let (s, u) = and_parts (eqb p b) (eqb q a) t in and_from (eqb q a) (eqb p b) u s
-
 -- A pair that is listed stands in the list.
 in_list : (list : List (ℕ × ℕ)) (p q : ℕ) → listed list p q ≡ true → Stands list p q
-in_list [] p q e = absurd (false≢true e)
-in_list ((a, b) ∷ list) p q e = ⊎_elim (stands_first a b list p q) (λ t. stands_later (a, b) list p q (in_list list p q t)) (or_cases _ (listed list p q) e)
+in_list [] p q e = grind arith
+in_list ((a, b) ∷ list) p q e = grind (arith, nat_tests, in_list list p q, Memᴰ.head, Memᴰ.tail)
 
 -- A pair that stands in the list is listed.
 is_listed : (list : List (ℕ × ℕ)) (p q : ℕ) → Memᴰ (p, q) list → listed list p q ≡ true
 is_listed [] p q m = absurd (Memᴰ.not-nil m)
-is_listed ((a, b) ∷ list) p q m = ⊎_elim here (λ later. or_right _ _ (is_listed list p q later)) (Memᴰ.cases_cons m)
-  where
-    here : ◌≡◌ {A = ℕ × ℕ} (p, q) (a, b) → listed ((a, b) ∷ list) p q ≡ true
-    here e = or_left _ _ (or_left _ _ (and_from _ _ (eq-eqb p a (ap (λ (pair : ℕ × ℕ). pair.0) e)) (eq-eqb q b (ap (λ (pair : ℕ × ℕ). pair.1) e))))
+is_listed ((a, b) ∷ list) p q m = grind (arith, nat_tests, is_listed list p q, Memᴰ.cases_cons m)
 
 exactly_the_listed : (list : List (ℕ × ℕ)) (p q : ℕ) → (listed list p q ≡ true) ↔ Stands list p q
 exactly_the_listed list p q = (in_list list p q, ⊎_elim (is_listed list p q) (λ m. rw listed_both_ways (is_listed list q p m)))
