@@ -1,5 +1,5 @@
 -- The computed marks are the carriers that are reached, and the lost carrier is the lowest that is not.
-use Rattle.std.proofs.Common.{◌≡◌, ℕ, zero, suc, ◌+◌, ◌<◌, ◌≤◌, Bool, true, false, not, ◌&&◌, ◌||◌, ◌⊎◌, ◌↔◌, List, [], ◌∷◌, length, get_or, replicate, is_some, Some, refl, inl, inr, ⊎_elim, arith}
+use Rattle.std.proofs.Common.{◌≡◌, ℕ, zero, suc, ◌+◌, ◌<◌, ◌≤◌, Bool, true, false, not, if◌then◌else◌, ◌&&◌, ◌||◌, ◌⊎◌, ◌↔◌, List, [], ◌∷◌, length, get_or, replicate, is_some, Some, refl, inl, inr, ⊎_elim, arith}
 use mathlib.Core.Bool.{false≢true}
 use Rattle.std.proofs.lemmas.List.{get_or-map, get_or_past, length-map, length-replicate}
 use Rattle.std.proofs.lemmas.Bool.{and_parts, cases_eq, or_cases, both_ways, false_from_ne_true}
@@ -20,13 +20,11 @@ marked_in marks i h = grind (arith, get_or_past)
 -- how many are marked
 abbrev count : List Bool → ℕ
 count [] = 0
-count (true ∷ marks) = suc (count marks)
-count (false ∷ marks) = count marks
+count (m ∷ marks) = if m then suc (count marks) else count marks
 
 count_le_length : (marks : List Bool) → count marks ≤ length marks
 count_le_length [] = omega arith
-count_le_length (true ∷ marks) = omega (arith, count_le_length marks)
-count_le_length (false ∷ marks) = omega (arith, count_le_length marks)
+count_le_length (m ∷ marks) = grind (arith, count_le_length marks)
 
 -- All marks of the first are marks of the second.
 abbrev AllOf : List Bool → List Bool → Type 0

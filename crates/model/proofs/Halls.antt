@@ -33,16 +33,10 @@ module _ (g : Grid) where
 
   module _ (r c s d : ℕ) (hr : r < g.rows) (hc : c < g.columns) (hs : s < g.rows) (hd : d < g.columns) where
     moves_to_neighbours : ((hall_site g).has_move (cell g r c) (cell g s d) ≡ true) ↔ ((apart r s ≤ 1) × (apart c d ≤ 1))
-    moves_to_neighbours =
-        let (row, column) = rows_and_columns r c hc in
-        let (other_row, other_column) = rows_and_columns s d hd in
-        simp (row, column, other_row, other_column) (grind (arith, nat_tests, cell_inside r c hr hc, cell_inside s d hs hd))
+    moves_to_neighbours = grind (arith, nat_tests, div-mul-add, mod-mul-add, mul-add-lt)
 
     contact_within_radius : ((hall_site g).in_contact (cell g r c) (cell g s d) ≡ true) ↔ (apart r s * apart r s + apart c d * apart c d ≤ g.radius * g.radius)
-    contact_within_radius =
-        let (row, column) = rows_and_columns r c hc in
-        let (other_row, other_column) = rows_and_columns s d hd in
-        simp (row, column, other_row, other_column) (grind (arith, nat_tests, cell_inside r c hr hc, cell_inside s d hs hd))
+    contact_within_radius = grind (arith, nat_tests, rows_and_columns r c hc, rows_and_columns s d hd, cell_inside r c hr hc, cell_inside s d hs hd)
 
 pub halls_are_sites : HallsAreSites
 halls_are_sites = record {

@@ -1,5 +1,5 @@
 -- The open list: what is put stands at its place, nothing else is added, and nothing is lost.
-use Rattle.std.proofs.Common.{◌≡◌, ℕ, suc, ◌+◌, ◌<◌, ◌≤◌, true, false, cond, ◌&&◌, eqb, ◌⊎◌, List, [], ◌∷◌, length, refl, ap, arith}
+use Rattle.std.proofs.Common.{◌≡◌, ℕ, suc, ◌+◌, ◌<◌, ◌≤◌, true, false, cond, ◌&&◌, eqb, ◌⊎◌, List, [], ◌∷◌, length, refl, ◌∙◌, arith}
 use mathlib.Core.List.Memᴰ
 use mathlib.Core.List.{Memᴰ}
 use Rattle.std.proofs.lemmas.Bool.{cond_both}
@@ -9,27 +9,11 @@ use Rattle.model.specs.OpenList.{Pair, Before, precedes, insert, put, InOrder, t
 
 -- The order of pairs.
 
-precedes_before : (a b : Pair) → precedes a b ≡ true → Before a b
-precedes_before a b e = grind (arith, nat_tests)
-
-before_or : (a b : Pair) → precedes a b ≡ false → Before b a
-before_or a b e = grind (arith, nat_tests)
-
-before_itself : (a : Pair) → Before a a
-before_itself a = grind arith
-
-before_on : (a b c : Pair) → Before a b → Before b c → Before a c
-before_on a b c e f = grind arith
-
 pub before_costs : (a b : Pair) → Before a b → a.0 ≤ b.0
 before_costs a b e = grind arith
 
 before_both : (a b : Pair) → Before a b → Before b a → a ≡ b
 before_both a b e f = grind arith
-
--- What holds wherever the new pair goes, before b or behind it, holds of the list that it is put into.
-at_its_place : (P : List Pair → Type 0) (a b : Pair) (bs : List Pair) → (precedes a b ≡ true → P (a ∷ b ∷ bs)) → (precedes a b ≡ false → P (b ∷ insert a bs)) → P (insert a (b ∷ bs))
-at_its_place P a b bs before behind = cond_both (precedes a b) (a ∷ b ∷ bs) (b ∷ insert a bs) P before behind
 
 pub insert_length : (a : Pair) (bs : List Pair) → length (insert a bs) ≡ suc (length bs)
 insert_length a [] = refl
@@ -49,9 +33,9 @@ put_or_there a x (b ∷ bs) h = grind (arith, put_or_there a x bs, Memᴰ.cases_
 
 pub insert_in_order : (a : Pair) (bs : List Pair) → InOrder bs → InOrder (insert a bs)
 insert_in_order a [] o = ((λ b h. absurd (Memᴰ.not-nil h)), tt)
-insert_in_order a (b ∷ bs) o = at_its_place InOrder a b bs
-    (λ e. ((λ x h. grind (arith, precedes_before a b e, before_on a b x, o.0 x, Memᴰ.cases_cons h)), o))
-    (λ e. ((λ x h. grind (arith, before_or a b e, o.0 x, put_or_there a x bs h)), insert_in_order a bs o.1))
+insert_in_order a (b ∷ bs) o = cond_both (precedes a b) (a ∷ b ∷ bs) (b ∷ insert a bs) InOrder
+    (λ before. ((λ x h. grind (arith, nat_tests, o.0 x, Memᴰ.cases_cons h)), o))
+    (λ behind. ((λ x h. grind (arith, nat_tests, o.0 x, put_or_there a x bs h)), insert_in_order a bs o.1))
 
 -- A put that is refused changes nothing, and else the pair is inserted.
 
@@ -63,22 +47,19 @@ put_inserts room a ps cheap fits = grind (arith, nat_tests)
 
 -- How often a pair is in a list.
 
--- It counts once more at the head of a list where it is the head, and else not.
-abbrev once : Pair → Pair → ℕ
-once x a = cond (eqb x.0 a.0 && eqb x.1 a.1) 1 0
-
-times_cons : (x a : Pair) (ps : List Pair) → times x (a ∷ ps) ≡ once x a + times x ps
-times_cons x a ps = grind arith
-
-once_itself : (a : Pair) → once a a ≡ 1
-once_itself a = grind (arith, nat_tests)
-
-once_other : (x a : Pair) → (x ≡ a → ⊥) → once x a ≡ 0
-once_other x a n = grind (arith, nat_tests)
-
-insert_times : (a x : Pair) (ps : List Pair) → times x (insert a ps) ≡ once x a + times x ps
-insert_times a x [] = times_cons x a []
+-- It is in the list that it is put into as often as if it were put first.
+insert_times : (a x : Pair) (ps : List Pair) → times x (insert a ps) ≡ times x (a ∷ ps)
+insert_times a x [] = refl
 insert_times a x (b ∷ ps) = grind (arith, insert_times a x ps)
+
+times_itself : (a : Pair) (ps : List Pair) → times a (a ∷ ps) ≡ suc (times a ps)
+times_itself a ps = grind (arith, nat_tests)
+
+times_other : (a x : Pair) (ps : List Pair) → (x ≡ a → ⊥) → times x (a ∷ ps) ≡ times x ps
+times_other a x ps n = grind (arith, nat_tests)
+
+times_rest : (x a b : Pair) (ps qs : List Pair) → a ≡ b → times x (a ∷ ps) ≡ times x (b ∷ qs) → times x ps ≡ times x qs
+times_rest x a b ps qs same e = grind arith
 
 times_there : (x : Pair) (ps : List Pair) → 1 ≤ times x ps → Memᴰ x ps
 times_there x [] h = absurd (omega arith)
@@ -90,20 +71,20 @@ head_before a x ps o h = grind (arith, o.0 x, Memᴰ.cases_cons h)
 
 pub one_order : (ps qs : List Pair) → InOrder ps → InOrder qs → ((x : Pair) → times x ps ≡ times x qs) → ps ≡ qs
 one_order [] [] o k h = refl
-one_order [] (b ∷ qs) o k h = grind (arith, nat_tests, h b)
-one_order (a ∷ ps) [] o k h = grind (arith, nat_tests, h a)
+one_order [] (b ∷ qs) o k h = absurd (omega (arith, h b, times_itself b qs))
+one_order (a ∷ ps) [] o k h = absurd (omega (arith, h a, times_itself a ps))
 one_order (a ∷ ps) (b ∷ qs) o k h =
-    let a_there = times_there a (b ∷ qs) (omega (arith, h a, times_cons a a ps, once_itself a)) in
-    let b_there = times_there b (a ∷ ps) (omega (arith, h b, times_cons b b qs, once_itself b)) in
+    let a_there = times_there a (b ∷ qs) (omega (arith, h a, times_itself a ps)) in
+    let b_there = times_there b (a ∷ ps) (omega (arith, h b, times_itself b qs)) in
     let same : a ≡ b = before_both a b (head_before a b ps o b_there) (head_before b a qs k a_there) in
-    let fewer = one_order ps qs o.1 k.1 (λ x. omega (arith, h x, times_cons x a ps, times_cons x b qs, ap (once x) same)) in
-    λ i. same i ∷ fewer i
+    let fewer = one_order ps qs o.1 k.1 (λ x. times_rest x a b ps qs same (h x)) in
+    cc
 
 pub open_lists_keep_order : OpenListsKeepOrder
 open_lists_keep_order = record {
   put_keeps_order = put_in_order;
-  insert_adds_it = λ a ps. omega (arith, insert_times a a ps, once_itself a);
-  insert_adds_no_other = λ a x ps other. omega (arith, insert_times a x ps, once_other x a other);
+  insert_adds_it = λ a ps. insert_times a a ps ∙ times_itself a ps;
+  insert_adds_no_other = λ a x ps other. insert_times a x ps ∙ times_other a x ps other;
   put_where_there_is_room = put_inserts;
   one_order = one_order;
 }
