@@ -3,9 +3,9 @@ use Rattle.std.proofs.Common.{◌≡◌, ℕ, zero, suc, ◌+◌, ◌<◌, ◌�
 use mathlib.Core.List.Memᴰ
 use mathlib.Core.List.{Memᴰ}
 use Rattle.std.specs.List.{range_with_len, flat_map}
-use Rattle.std.proofs.ByRecursion.{All-get_or, All-from_get_or, Decides-by_and}
+use Rattle.std.proofs.lemmas.List.Elements.{All-from_get_or}
 use Rattle.std.proofs.lemmas.Bool.{cases_eq, cases_lt, and_parts, and_from, or_cases, or_left, or_right, not-true, both_ways, eqb-true, eqb-false, eq-eqb, ne_eqb, le-leb, lt-ltb, cond-true, cond-false, cond_both}
-use Rattle.std.proofs.lemmas.Bool.Decides.{nat_tests, Decides-like, Decides-ltb, Decides-and, Decides-or}
+use Rattle.std.proofs.lemmas.Bool.Decides.{nat_tests, Decides-by_and, Decides-like, Decides-ltb, Decides-and, Decides-or}
 use Rattle.model.specs.declared.item.Demand.{Demand}
 use Rattle.model.specs.declared.item.Demand.TheVariants.{MustBe, MustNotBe}
 use Rattle.model.specs.declared.item.Item.{Item}
@@ -19,7 +19,7 @@ use Rattle.model.proofs.Contact.{connected_is_contact, out_of_contact}
 -- The test of a configuration's range says what `InRange` says.
 each_below_decides : (n : ℕ) (c : List ℕ) → Decides (each_below n c) ((k : ℕ) → k < length c → get_or c k 0 < n)
 each_below_decides n c =
-    Decides-like _ (λ all k h. All-get_or (λ p. p < n) c k 0 h all) (All-from_get_or (λ p. p < n) c 0)
+    Decides-like _ (λ all k h. all k 0 h) (All-from_get_or (λ p. p < n) c 0)
     (Decides-by_and (λ p. ltb p n) (λ p. p < n) (each_below n) (λ p. Decides-ltb p n) refl (λ _ _. refl) c)
 
 is_in_range : (s : Site) (c : List ℕ) (i : Item) → in_range s c i ≡ true → InRange s c i
@@ -75,14 +75,6 @@ speaks_decides s c i = (
 leaves_decides : (c : List ℕ) (i : Item) → (leaves c i ≡ true) ↔ IsYield c i
 leaves_decides c i = grind (arith, nat_tests)
 
--- The item is that its carrier must be at another place than its own.
-record Goes (c : List ℕ) (i : Item) : Type 0 where
-  pub must_be_there : i.demand ≡ MustBe
-  pub elsewhere : i.place ≡ place_of c i.carrier → ⊥
-
-goes_decides : (c : List ℕ) (i : Item) → (goes c i ≡ true) ↔ Goes c i
-goes_decides c i = grind (arith, nat_tests)
-
 -- Among the carriers from number k on, that of index j is another than a, and there one is in contact with v.
 record Hearer (s : Site) (a v k : ℕ) (c : List ℕ) : Type 0 where
   pub index : ℕ
@@ -118,42 +110,21 @@ self_decides s c a v = Decides-or (s.in_contact s.base v) (hears_another s a 1 c
     from (suc j) by = of_hearer s a 1 c v j (omega (arith, by.carrier)) (λ e. by.another (omega arith)) by.contact
 
 -- An item that goes and mends the loss is SELF or OTHER.
-mends_decides : (s : Site) (c : List ℕ) (i : Item) → Goes c i → (mends s c (lost s c) i ≡ true) ↔ (IsSelf s c i ⊎ IsOther s c i)
-mends_decides s c i g = (to (lost s c) refl, ⊎_elim of_self of_other)
+mends_decides : (s : Site) (c : List ℕ) (i : Item) → ((goes c i && mends s c (lost s c) i) ≡ true) ↔ (IsSelf s c i ⊎ IsOther s c i)
+mends_decides s c i = (to (lost s c) refl, ⊎_elim of_self of_other)
   where
-    to : (o : Option ℕ) → lost s c ≡ o → mends s c o i ≡ true → IsSelf s c i ⊎ IsOther s c i
-    to None at e = cc
-    to (Some a) at e = ⊎_elim
-        (λ (same : i.carrier ≡ a). inl (record {
-          must_be = g.must_be_there;
-          lost_itself = cc;
-          elsewhere = g.elsewhere;
-          heard = (self_decides s c i.carrier i.place).0 (grind (arith, nat_tests));
-        }))
-        (λ (differ : i.carrier ≡ a → ⊥). inr (record {
-          must_be = g.must_be_there;
-          lost_one = a;
-          lost_is = at;
-          another = differ;
-          elsewhere = g.elsewhere;
-          heard = grind (arith, nat_tests);
-        }))
-        (cases_eq i.carrier a)
+    to : (o : Option ℕ) → lost s c ≡ o → (goes c i && mends s c o i) ≡ true → IsSelf s c i ⊎ IsOther s c i
+    to None at e = grind arith
+    to (Some a) at e = grind (arith, nat_tests, at, (self_decides s c i.carrier i.place).0)
 
-    of_self : IsSelf s c i → mends s c (lost s c) i ≡ true
-    of_self h = grind (arith, nat_tests, h.lost_itself, (self_decides s c i.carrier i.place).1 h.heard)
+    of_self : IsSelf s c i → (goes c i && mends s c (lost s c) i) ≡ true
+    of_self h = grind (arith, nat_tests, (self_decides s c i.carrier i.place).1 h.heard)
 
-    of_other : IsOther s c i → mends s c (lost s c) i ≡ true
-    of_other h = grind (arith, nat_tests, h.lost_is, h.another, h.heard)
+    of_other : IsOther s c i → (goes c i && mends s c (lost s c) i) ≡ true
+    of_other h = grind (arith, nat_tests)
 
 three_way_decides : (s : Site) (c : List ℕ) (i : Item) → ((leaves c i || (goes c i && mends s c (lost s c) i)) ≡ true) ↔ (IsYield c i ⊎ IsSelf s c i ⊎ IsOther s c i)
-three_way_decides s c i = Decides-or (leaves c i) (goes c i && mends s c (lost s c) i) (leaves_decides c i) (to, from)
-  where
-    to : (goes c i && mends s c (lost s c) i) ≡ true → IsSelf s c i ⊎ IsOther s c i
-    to e = let (away, mended) = and_parts (goes c i) _ e in (mends_decides s c i ((goes_decides c i).0 away)).0 mended
-
-    from : IsSelf s c i ⊎ IsOther s c i → (goes c i && mends s c (lost s c) i) ≡ true
-    from h = let g : Goes c i = grind arith in grind (arith, (goes_decides c i).1 g, (mends_decides s c i g).1 h)
+three_way_decides s c i = Decides-or (leaves c i) _ (leaves_decides c i) (mends_decides s c i)
 
 pub rules_keep_the_laws : RulesKeepTheLaws
 rules_keep_the_laws = record {
@@ -166,16 +137,13 @@ rules_keep_the_laws = record {
 -- Every item whose numbers are in range is among all items.
 counted : (a m k : ℕ) → m ≤ a → a < m + k → Memᴰ a (range_with_len m k)
 counted a m zero low high = absurd (omega arith)
-counted a m (suc k) low high =
-    ⊎_elim (λ (later : m < a). Memᴰ.tail (counted a (m + 1) k (omega arith) (omega arith)))
-    (λ (now : a ≤ m). Memᴰ.head (omega arith)) (cases_lt m a)
+counted a m (suc k) low high = grind (arith, counted a (m + 1) k, Memᴰ.head, Memᴰ.tail)
 
 demands_have : (d : Demand) → Memᴰ d (MustBe ∷ MustNotBe ∷ [])
-demands_have MustBe = Memᴰ.head refl
-demands_have MustNotBe = Memᴰ.tail (Memᴰ.head refl)
+demands_have d = grind (arith, Memᴰ.head, Memᴰ.tail)
 
 joined_has : {A : Type 0} (f : A → List Item) {i : Item} {a : A} {all : List A} → Memᴰ a all → Memᴰ i (f a) → Memᴰ i (flat_map f all)
-joined_has f {i} (Memᴰ.head {xs = others} e) h = Memᴰ.append_left (flat_map f others) (subst (λ b. Memᴰ i (f b)) e h)
+joined_has f {i} (Memᴰ.head {xs = others} e) h = Memᴰ.append_left (flat_map f others) (rw e at h)
 joined_has f (Memᴰ.tail {x = b} t) h = Memᴰ.append_right (f b) (joined_has f t h)
 
 pub items_have : (carriers places : ℕ) (i : Item) → i.place < places → 1 ≤ i.carrier → i.carrier ≤ carriers → Memᴰ i (items carriers places)
