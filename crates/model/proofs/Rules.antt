@@ -1,10 +1,10 @@
 -- Yield and Three-way keep the laws of a rule.
-use Rattle.std.proofs.Common.{◌≡◌, ℕ, zero, suc, ◌+◌, ◌<◌, ◌≤◌, true, false, not, ◌&&◌, ◌||◌, eqb, ltb, ◌⊎◌, ◌↔◌, List, [], ◌∷◌, length, get_or, Some, None, Decides, Option, sym, refl, ap, ◌∙◌, subst, inl, inr, ⊎_elim, arith}
+use Rattle.std.proofs.Common.{◌≡◌, ℕ, zero, suc, ◌+◌, ◌<◌, ◌≤◌, true, false, not, ◌&&◌, ◌||◌, eqb, ltb, ◌⊎◌, ◌↔◌, List, [], ◌∷◌, length, get_or, Some, None, Decides, Option, refl, inl, inr, ⊎_elim, arith}
 use mathlib.Core.List.Memᴰ
 use mathlib.Core.List.{Memᴰ}
 use Rattle.std.specs.List.{range_with_len, flat_map}
 use Rattle.std.proofs.lemmas.List.Elements.{All-from_get_or}
-use Rattle.std.proofs.lemmas.Bool.{cases_eq, cases_lt, and_parts, and_from, or_cases, or_left, or_right, not-true, both_ways, eqb-true, eqb-false, eq-eqb, ne_eqb, le-leb, lt-ltb, cond-true, cond-false, cond_both}
+use Rattle.std.proofs.lemmas.Bool.{cases_eq, or_cases}
 use Rattle.std.proofs.lemmas.Bool.Decides.{nat_tests, Decides-by_and, Decides-like, Decides-ltb, Decides-and, Decides-or}
 use Rattle.model.specs.declared.item.Demand.{Demand}
 use Rattle.model.specs.declared.item.Demand.TheVariants.{MustBe, MustNotBe}
@@ -12,7 +12,7 @@ use Rattle.model.specs.declared.item.Item.{Item}
 use Rattle.model.specs.Contact.{is_connected, lost, place_of}
 use Rattle.model.specs.Item.{Meets, must_be}
 use Rattle.model.specs.Rule.{Rule, InRange, RuleLaws}
-use Rattle.model.specs.Rules.{each_below, in_range, speaks, leaves, goes, hears_another, self, other, mends, yields, three_way, items_of, items_with, items, IsYield, HeardBy, IsSelf, IsOther, Speaks, RulesKeepTheLaws}
+use Rattle.model.specs.Rules.{each_below, in_range, speaks, leaves, goes, hears_another, self, mends, yields, three_way, items_of, items_with, items, IsYield, HeardBy, IsSelf, IsOther, Speaks, RulesKeepTheLaws}
 use Rattle.model.specs.Site.{Site}
 use Rattle.model.proofs.Contact.{connected_is_contact, out_of_contact}
 
