@@ -47,19 +47,9 @@ pub record Ready (p : Problem) (Left : Timely p → Type 0) (st : State) : Type 
   pub covers : (q : Timely p) → Covered p st q ⊎ Left q
 
 pub fewer_left : {p : Problem} {Left Fewer : Timely p → Type 0} {st : State} → Ready p Left st → ((q : Timely p) → Left q → Fewer q) → Ready p Fewer st
-fewer_left {p} {Left} {Fewer} {st} r f = record {
-  crew = r.crew;
-  family = r.family;
-  opened = r.opened;
-  ordered = r.ordered;
-  counted = r.counted;
-  few = r.few;
-  roomy = r.roomy;
-  short = r.short;
-  low = r.low;
-  bounds = r.bounds;
-  covers = λ q. ⊎_elim (λ (c : Covered p st q). inl c) (λ (l : Left q). inr (f q l)) (r.covers q);
-}
+fewer_left {p} {Left} {Fewer} {st} r f =
+    let covers : (q : Timely p) → Covered p st q ⊎ Fewer q = λ q. ⊎_elim inl (λ l. inr (f q l)) (r.covers q) in
+    assumption
 
 -- A new node that is put covers the plans that keep its conditions.
 pub record NewNode (p : Problem) (st : State) (n : Node) (cs : List Condition) (x : List TimedPath) : Type 0 where
@@ -87,7 +77,7 @@ module _ (p : Problem) (st : State) (n : Node) where
 
   stays_open : Family st.nodes → (a : Pair) → Opened p st a → Opened p (with_node n st) a
   stays_open fam a o = record {
-    inside = omega (arith, o.inside, longer);
+    inside = omega (arith, longer);
     paths = o.paths;
     runs = rw (conditions_stay st.nodes n fam a.1 o.inside) o.runs;
     cost = o.cost;
@@ -111,17 +101,15 @@ module _ (p : Problem) (st : State) (n : Node) where
     put_covers {Left} {Fewer} {cs} {x} r new f = record {
       crew = r.crew;
       family = family_grows st.nodes n r.family new.descends;
-      opened = λ a h. ⊎_elim (λ (e : a ≡ here). subst (Opened p (with_node n st)) (sym e) here_opened) (λ (t : Memᴰ a st.pairs). stays_open r.family a (r.opened a t))
-          (put_or_there here a st.pairs (subst (Memᴰ a) accepted h));
-      ordered = subst InOrder (sym accepted) (insert_in_order here st.pairs r.ordered);
-      counted = omega (arith, longer, ap length accepted, insert_length here st.pairs, r.counted);
+      opened = λ a h. ⊎_elim (λ e. rw e here_opened) (λ t. stays_open r.family a (r.opened a t)) (put_or_there here a st.pairs (rw accepted at h));
+      ordered = rw accepted (insert_in_order here st.pairs r.ordered);
+      counted = omega (arith, longer, ap length accepted, insert_length here st.pairs);
       few = omega (arith, longer, new.room);
       roomy = r.roomy;
       short = r.short;
       low = r.low;
       bounds = r.bounds;
-      covers = λ q. ⊎_elim (λ (c : Covered p st q). inl (stays_covered r.family r.opened c))
-          (λ (l : Left q). ⊎_elim (λ (k : Kept q cs). inl (here_covers q k)) (λ (m : Fewer q). inr m) (f q l)) (r.covers q);
+      covers = λ q. ⊎_elim (λ c. inl (stays_covered r.family r.opened c)) (λ l. ⊎_elim (λ k. inl (here_covers q k)) inr (f q l)) (r.covers q);
     }
       where
         here_opened : Opened p (with_node n st) here

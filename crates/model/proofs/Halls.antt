@@ -8,17 +8,7 @@ use Rattle.model.specs.Hall.{Grid, cells, cell, row_of, column_of, apart, hall_s
 
 module _ (g : Grid) where
   hall_lawful : cells g ≤ most_places → g.base < cells g → Lawful (hall_site g)
-  hall_lawful few is_place = record {
-    few_places = few;
-    base_is_place = is_place;
-    open_is_place = λ p e. grind (arith, nat_tests);
-    move_is_place = λ p q e. grind (arith, nat_tests);
-    contact_is_place = λ p q e. grind (arith, nat_tests);
-    self_move = λ p h. grind (arith, nat_tests);
-    self_contact = λ p h. grind (arith, nat_tests);
-    move_both_ways = λ p q. grind (arith, nat_tests);
-    contact_both_ways = λ p q. grind (arith, nat_tests);
-  }
+  hall_lawful few is_place = grind (arith, nat_tests)
 
   -- Rows and columns.
 

@@ -8,24 +8,14 @@ use Rattle.model.specs.Site.{Lawful}
 use Rattle.model.specs.PairSite.{Pairs, with_pair, listed, Network, joined, pair_site, BothWays, PairSitesAreSites}
 
 joined_both_ways : (n : ℕ) (pairs : Pairs) → BothWays pairs → (p q : ℕ) → joined n pairs p q ≡ joined n pairs q p
-joined_both_ways n pairs both p q = let e = both p q in grind (arith, nat_tests)
+joined_both_ways n pairs both p q = grind (arith, nat_tests, both p q)
 
 pair_site_lawful : (w : Network) → w.places ≤ most_places → w.base < w.places → BothWays w.moves → BothWays w.contacts → Lawful (pair_site w)
-pair_site_lawful w few is_place moves_both contacts_both = record {
-  few_places = few;
-  base_is_place = is_place;
-  open_is_place = λ p e. grind (arith, nat_tests);
-  move_is_place = λ p q e. grind (arith, nat_tests);
-  contact_is_place = λ p q e. grind (arith, nat_tests);
-  self_move = λ p h. grind (arith, nat_tests);
-  self_contact = λ p h. grind (arith, nat_tests);
-  move_both_ways = joined_both_ways w.places w.moves moves_both;
-  contact_both_ways = joined_both_ways w.places w.contacts contacts_both;
-}
+pair_site_lawful w few is_place moves_both contacts_both = grind (arith, nat_tests, joined_both_ways w.places w.moves moves_both, joined_both_ways w.places w.contacts contacts_both)
 
 -- One pair more holds both ways round.
 with_pair_both_ways : (p q : ℕ) (pairs : Pairs) → BothWays pairs → BothWays (with_pair p q pairs)
-with_pair_both_ways p q pairs both a b = let e = both a b in grind arith
+with_pair_both_ways p q pairs both a b = grind (arith, both a b)
 
 listed_both_ways : (list : List (ℕ × ℕ)) → BothWays (listed list)
 listed_both_ways [] a b = refl
