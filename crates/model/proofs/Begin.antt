@@ -60,12 +60,4 @@ module _ (p : Problem) (lawful : Lawful p.site) (pairs : List Pair) (room : ℕ)
 
 -- It has made no turn.
 pub begin_new : (p : Problem) (pairs : List Pair) (room : ℕ) → (begin p pairs room).turns ≡ 0
-begin_new p pairs room = go (unfitness p.site p.task (length pairs) room)
-  where
-    with_any_root : (r : Option (List TimedPath)) → (with_root r (fresh pairs room Running None)).turns ≡ 0
-    with_any_root None = refl
-    with_any_root (Some x) = refl
-
-    go : (u : Option Unfitness) → (begun p pairs room u).turns ≡ 0
-    go None = with_any_root (execution p.site p.task [])
-    go (Some u) = refl
+begin_new p pairs room = grind arith

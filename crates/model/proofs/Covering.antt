@@ -1,6 +1,6 @@
 -- What holds of a running search: its open nodes have executions of their cost, stand in order, are counted,
 -- and cover every plan within the horizon.
-use Rattle.std.proofs.Common.{◌≡◌, suc, ◌+◌, ◌<◌, ◌≤◌, ◌⊎◌, List, [], ◌∷◌, ◌++◌, length, Some, sym, refl, ap, subst, inl, inr, ⊎_elim, arith}
+use Rattle.std.proofs.Common.{◌≡◌, suc, ◌+◌, ◌<◌, ◌≤◌, ◌⊎◌, List, [], ◌∷◌, ◌++◌, length, Some, refl, ap, inl, inr, ⊎_elim, arith}
 use mathlib.Core.List.Memᴰ
 use mathlib.Core.List.{Memᴰ}
 use Rattle.model.specs.declared.item.Condition.{Condition}
@@ -87,13 +87,13 @@ module _ (p : Problem) (st : State) (n : Node) where
   -- The pair of the new node is put.
   module _ (accepted : put st.room here st.pairs ≡ insert here st.pairs) where
     is_put : (a : Pair) → Memᴰ a (insert here st.pairs) → Memᴰ a (with_node n st).pairs
-    is_put a h = subst (Memᴰ a) (sym accepted) h
+    is_put a h = rw accepted h
 
     stays_covered : {q : Timely p} → Family st.nodes → ((a : Pair) → Memᴰ a st.pairs → Opened p st a) → Covered p st q → Covered p (with_node n st) q
     stays_covered {q} fam opened c = record {
       pair = c.pair;
       among = is_put c.pair (others_stay here c.pair st.pairs c.among);
-      kept = subst (Kept q) (sym (conditions_stay st.nodes n fam c.pair.1 (opened c.pair c.among).inside)) c.kept;
+      kept = rw (conditions_stay st.nodes n fam c.pair.1 (opened c.pair c.among).inside) c.kept;
     }
 
     pub put_covers : {Left Fewer : Timely p → Type 0} {cs : List Condition} {x : List TimedPath} → Ready p Left st → NewNode p st n cs x
@@ -116,7 +116,7 @@ module _ (p : Problem) (st : State) (n : Node) where
         here_opened = record { inside = omega (arith, longer); paths = x; runs = rw new.conditions new.runs; cost = new.cost; above = new.above }
 
         here_covers : (q : Timely p) → Kept q cs → Covered p (with_node n st) q
-        here_covers q k = record { pair = here; among = is_put here (put_is_there here st.pairs); kept = subst (Kept q) (sym new.conditions) k }
+        here_covers q k = record { pair = here; among = is_put here (put_is_there here st.pairs); kept = rw new.conditions k }
 
 pub node_added : (p : Problem) → Lawful p.site → (st : State) (n : Node) {Left Fewer : Timely p → Type 0} {cs : List Condition} {x : List TimedPath} → Ready p Left st → NewNode p st n cs x
     → ((q : Timely p) → Left q → Kept q cs ⊎ Fewer q) → Ready p Fewer (with_node n st)
@@ -129,10 +129,10 @@ NoneLeft q = ⊥
 -- The first open pair is taken.
 module _ (p : Problem) (lawful : Lawful p.site) (st : State) (a : Pair) (ps : List Pair) (first : st.pairs ≡ a ∷ ps) (r : Ready p NoneLeft st) where
   in_order : InOrder (a ∷ ps)
-  in_order = subst InOrder first r.ordered
+  in_order = rw first at r.ordered
 
   pub opened_before : (b : Pair) → Memᴰ b (a ∷ ps) → Opened p st b
-  opened_before b h = r.opened b (subst (Memᴰ b) (sym first) h)
+  opened_before b h = r.opened b (rw first h)
 
   -- It costs no more than any plan within the horizon has steps.
   least : (q : Timely p) → a.0 ≤ q.steps
@@ -142,7 +142,7 @@ module _ (p : Problem) (lawful : Lawful p.site) (st : State) (a : Pair) (ps : Li
       covered c =
           let o = r.opened c.pair c.among in
           let cheap = kept_cost p lawful q (conditions_of st.nodes c.pair.1) c.kept o.paths (executes p (conditions_of st.nodes c.pair.1) o.paths o.runs) in
-          let behind = before_costs a c.pair (head_before a c.pair ps in_order (subst (Memᴰ c.pair) first c.among)) in
+          let behind = before_costs a c.pair (head_before a c.pair ps in_order (rw first at c.among)) in
           omega (arith, o.cost)
 
   -- The plans that only it covered are left.
@@ -166,6 +166,6 @@ module _ (p : Problem) (lawful : Lawful p.site) (st : State) (a : Pair) (ps : Li
 
       covered : (q : Timely p) → Covered p st q → Covered p (taken a ps st) q ⊎ Kept q (conditions_of st.nodes a.1)
       covered q c = ⊎_elim
-          (λ (e : c.pair ≡ a). inr (subst (λ (b : Pair). Kept q (conditions_of st.nodes b.1)) e c.kept))
-          (λ (t : Memᴰ c.pair ps). inl (record { pair = c.pair; among = t; kept = c.kept }))
-          (Memᴰ.cases_cons (subst (Memᴰ c.pair) first c.among))
+          (λ e. inr (rw e at c.kept))
+          (λ t. inl (record { pair = c.pair; among = t; kept = c.kept }))
+          (Memᴰ.cases_cons (rw first at c.among))
