@@ -1,5 +1,5 @@
 -- The computed path is the chosen one.
-use Rattle.std.proofs.Common.{◌≡◌, ℕ, zero, suc, ◌+◌, ◌-◌, ◌<◌, ◌≤◌, Bool, true, cond, ◌&&◌, eqb, ◌↔◌, List, [], ◌∷◌, map, length, get_or, Some, None, ◌⊎◌, Option, sym, refl, inl, inr, ap, ◌∙◌, subst, ⊎_elim, add-zero, zero-add, arith}
+use Rattle.std.proofs.Common.{◌≡◌, ℕ, zero, suc, ◌+◌, ◌-◌, ◌<◌, ◌≤◌, Bool, true, cond, ◌&&◌, eqb, ◌↔◌, List, [], ◌∷◌, map, length, get_or, Some, None, ◌⊎◌, Option, sym, refl, inl, inr, ap, ◌∙◌, ⊎_elim, zero-add, arith}
 use mathlib.Core.Bool.{beq}
 use mathlib.Core.List.Memᴰ
 use mathlib.Core.List.{Memᴰ}
@@ -59,7 +59,7 @@ module _ (move : ℕ → Bool) (G : ℕ → List ℕ → Type 0) where
       (λ m. first_of_same _ _ (step_later q (λ w n g. both_ways _ m n)) _ later)
 
   onward_first_of_all : (ways : List (Option (List ℕ))) → ((r : ℕ) → FirstOf (G r) (get_or ways r None)) → FirstOf (Step move G 0) (onward move 0 ways)
-  onward_first_of_all ways h = onward_first 0 ways (λ j r at. subst (λ q. FirstOf (G q) (get_or ways j None)) (sym (zero-add j) ∙ at) (h j))
+  onward_first_of_all ways h = onward_first 0 ways (λ j r at. rw (← at, zero-add) (h j))
 
 -- A table of the first ways from each place.
 table_first : (n : ℕ) (f : ℕ → Option (List ℕ)) (G : ℕ → List ℕ → Type 0) → ((p : ℕ) → FirstOf (G p) (f p)) → ((p : ℕ) (w : List ℕ) → G p w → p < n)
@@ -163,7 +163,7 @@ module _ (s : Site) (e : Errand) (b : ℕ) where
   way_moves (suc k) m p w h (suc i) l = grind (arith, way_moves k (suc m))
 
   way_at : (k m p : ℕ) (w : List ℕ) → Way s e b k m p w → (i j : ℕ) → m + i ≡ j → i ≤ k → may_stand s e b j (get_or (p ∷ w) i 0) ≡ true
-  way_at k m p w h zero j at l = rw (sym (add-zero m) ∙ at) at (way_stands s e b k m p w h)
+  way_at k m p w h zero j at l = grind (arith, way_stands s e b k m p w h)
   way_at zero m p w h (suc i) j at l = absurd (omega arith)
   way_at (suc k) m p w h (suc i) j at l = grind (arith, way_at k (suc m))
 
@@ -199,7 +199,7 @@ module _ (s : Site) (e : Errand) (b : ℕ) where
   way_of_path w path stays = way_from e.horizon 0 e.start w (omega arith) stand path.moves path.ends
     where
       stand : (i j : ℕ) → 0 + i ≡ j → i ≤ e.horizon → may_stand s e b j (get_or (e.start ∷ w) i 0) ≡ true
-      stand i j at l = rw (sym at ∙ zero-add i) ((may_stand_stands s e b i _).1 record {
+      stand i j at l = rw (← at, zero-add) ((may_stand_stands s e b i _).1 record {
         open_place = path.through_open i l;
         keeps = λ c t a on. rw on at (path.keeps c t a (omega arith));
         at_goal = λ k. stays i k l;
@@ -257,12 +257,12 @@ module _ (s : Site) (e : Errand) where
       earliest q b path stays = let (v, _, way) = onward_of_path s e b q path stays in h.least b v (omega arith) way
 
       first : (q : List ℕ) → (v : List ℕ) × (e.start ∷ v ≡ q) × Onward s e a v → NotAfter (e.start ∷ w) q
-      first q (v, at, way) = subst (NotAfter (e.start ∷ w)) at (not_after_cons e.start e.start w v (omega arith) (λ _. h.first v way))
+      first q (v, at, way) = rw at at (not_after_cons e.start e.start w v (omega arith) (λ _. h.first v way))
 
 pub chosen_sound : (s : Site) (e : Errand) (x : TimedPath) → Lawful s → chosen s e ≡ Some x → IsChosen s e x
 chosen_sound s e x lawful is =
-    let (w, at, l, h) = subst (LeastOf s e 0 (suc e.horizon)) is (least_arrival_least s e lawful (suc e.horizon) 0) in
-    subst (λ q. IsChosen s e (record { places = q; arrival = x.arrival })) at (least_chosen s e x.arrival w l h)
+    let (w, at, l, h) = rw is at (least_arrival_least s e lawful (suc e.horizon) 0) in
+    rw at at (least_chosen s e x.arrival w l h)
 
 -- A path is at the goal from the horizon on.
 pub stays_at_end : (s : Site) (e : Errand) (q : List ℕ) → IsPath s e q → Stays e q e.horizon
@@ -271,7 +271,7 @@ stays_at_end s e q path m l k = let same : e.horizon ≡ m = omega arith in rw s
 pub nothing_chosen : (s : Site) (e : Errand) (q : List ℕ) → Lawful s → chosen s e ≡ None → IsPath s e q → ⊥
 nothing_chosen s e q lawful none path =
     let (w, _, way) = onward_of_path s e e.horizon q path (stays_at_end s e q path) in
-    subst (LeastOf s e 0 (suc e.horizon)) none (least_arrival_least s e lawful (suc e.horizon) 0) e.horizon w (omega arith) (omega arith) way
+    (rw none at (least_arrival_least s e lawful (suc e.horizon) 0)) e.horizon w (omega arith) (omega arith) way
 
 some_or_none : {A : Type 0} (o : Option A) → ((x : A) × (o ≡ Some x)) ⊎ (o ≡ None)
 some_or_none (Some x) = inl (x, refl)

@@ -1,12 +1,11 @@
 -- The computed marks are the carriers that are reached, and the lost carrier is the lowest that is not.
 use Rattle.std.proofs.Common.{◌≡◌, ℕ, zero, suc, ◌+◌, ◌<◌, ◌≤◌, Bool, true, false, not, if◌then◌else◌, ◌&&◌, ◌||◌, ◌⊎◌, ◌↔◌, List, [], ◌∷◌, length, get_or, replicate, is_some, Some, refl, inl, inr, ⊎_elim, arith}
-use mathlib.Core.Bool.{false≢true}
 use Rattle.std.proofs.lemmas.List.{get_or-map, get_or_past, length-map, length-replicate}
 use Rattle.std.proofs.lemmas.Bool.{and_parts, cases_eq, or_cases, both_ways, false_from_ne_true}
 use Rattle.model.specs.Contact.{Reached, Connected, hears, spread, rounds, reached_marks, is_connected, first_unmarked, lost, ContactIsComputed}
 use Rattle.model.specs.Contact.Reached.{straight, relayed}
 use Rattle.model.specs.Site.{Site}
-use Rattle.model.proofs.Tables.{same_everywhere}
+use Rattle.model.proofs.Tables.{from_first, same_everywhere}
 
 -- The carrier at index i is marked.
 abbrev pub Marked : List Bool → ℕ → Type 0
@@ -43,8 +42,8 @@ abbrev Heard : Site → List ℕ → List Bool → ℕ → Type 0
 Heard s c marks p = (j : ℕ) × (j < length c) × Marked marks j × (s.in_contact (get_or c j 0) p ≡ true)
 
 heard : (s : Site) (c : List ℕ) (marks : List Bool) (p : ℕ) → hears s c marks p ≡ true → Heard s c marks p
-heard s [] marks p h = absurd (false≢true h)
-heard s (q ∷ c) [] p h = absurd (false≢true h)
+heard s [] marks p h = cc
+heard s (q ∷ c) [] p h = cc
 heard s (q ∷ c) (m ∷ marks) p h = ⊎_elim
     (λ here. let (marked, t) = and_parts m _ here in (0, omega arith, marked, t))
     (λ later. let (j, l, marked, t) = heard s c marks p later in (suc j, omega arith, marked, t))
@@ -134,13 +133,6 @@ record FirstUnmarked (marks : List Bool) (j : ℕ) : Type 0 where
   pub unmarked : get_or marks j false ≡ false
   pub before : (i : ℕ) → i < j → Marked marks i
 
-first_unmarked_later : (marks : List Bool) (j : ℕ) → FirstUnmarked marks j → FirstUnmarked (true ∷ marks) (suc j)
-first_unmarked_later marks j f = record { inside = omega arith; unmarked = f.unmarked; before = before }
-  where
-    before : (i : ℕ) → i < suc j → Marked (true ∷ marks) i
-    before zero l = grind arith
-    before (suc i) l = grind arith
-
 first_unmarked_is : (k : ℕ) (marks : List Bool) (n : ℕ) → first_unmarked k marks ≡ Some n → (j : ℕ) × (n ≡ k + j) × FirstUnmarked marks j
 first_unmarked_is k [] n e = cc
 first_unmarked_is k (false ∷ marks) n e =
@@ -148,15 +140,14 @@ first_unmarked_is k (false ∷ marks) n e =
     (0, omega arith, record { inside = omega arith; unmarked = refl; before = λ i l. absurd (omega arith) })
 first_unmarked_is k (true ∷ marks) n e =
     let (j, at, f) = first_unmarked_is (suc k) marks n e in
-    (suc j, omega arith, first_unmarked_later marks j f)
+    (suc j, omega arith, record { inside = omega (arith, f.inside); unmarked = f.unmarked; before = from_first (Marked (true ∷ marks)) refl f.before })
 
 -- No mark is missing.
 
 all_marked : (k : ℕ) (marks : List Bool) → not (is_some (first_unmarked k marks)) ≡ true → (i : ℕ) → i < length marks → Marked marks i
 all_marked k [] e i l = grind arith
 all_marked k (false ∷ marks) e i l = grind arith
-all_marked k (true ∷ marks) e zero l = refl
-all_marked k (true ∷ marks) e (suc i) l = all_marked (suc k) marks e i (omega arith)
+all_marked k (true ∷ marks) e i l = from_first (Marked (true ∷ marks)) refl (all_marked (suc k) marks e) i l
 
 none_unmarked : (k : ℕ) (marks : List Bool) → ((i : ℕ) → i < length marks → Marked marks i) → not (is_some (first_unmarked k marks)) ≡ true
 none_unmarked k [] h = refl

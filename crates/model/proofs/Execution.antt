@@ -14,6 +14,7 @@ use Rattle.model.specs.Site.{Site, Lawful}
 use Rattle.model.specs.State.{Problem}
 use Rattle.model.proofs.Chosen.{chosen_sound, nothing_chosen, chosen_no_sooner}
 use Rattle.model.proofs.Contact.{connected_is_contact}
+use Rattle.model.proofs.Tables.{from_first}
 
 -- how many carriers there are
 abbrev pub carriers : Problem → ℕ
@@ -51,11 +52,10 @@ module _ (s : Site) (t : Task) (cs : List Condition) where
     pub each : (j : ℕ) → j < k → chosen s (errand t cs (i + j)) ≡ Some (get_or x j no_path)
 
   choices_more : (i k : ℕ) (c : TimedPath) (x : List TimedPath) → chosen s (errand t cs i) ≡ Some c → Choices (suc i) k x → Choices i (suc k) (c ∷ x)
-  choices_more i k c x here rest = record { so_many = ap suc rest.so_many; each = each }
-    where
-      each : (j : ℕ) → j < suc k → chosen s (errand t cs (i + j)) ≡ Some (get_or (c ∷ x) j no_path)
-      each zero h = grind (arith, here)
-      each (suc j) h = grind (arith, rest.each j (omega arith))
+  choices_more i k c x here rest = record {
+    so_many = ap suc rest.so_many;
+    each = from_first (λ j. chosen s (errand t cs (i + j)) ≡ Some (get_or (c ∷ x) j no_path)) (grind (arith, here)) (λ j l. grind (arith, rest.each j l));
+  }
 
   choices : (i k : ℕ) (x : List TimedPath) → chosen_paths s t cs i k ≡ Some x → Choices i k x
   choices i zero x e = let none : x ≡ [] = cc in rw none (record { so_many = refl; each = λ j h. absurd (omega arith) })

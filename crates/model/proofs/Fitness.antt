@@ -1,5 +1,5 @@
 -- The checks find nothing exactly where all is fit, and name the lowest carrier whose start or goal is closed.
-use Rattle.std.proofs.Common.{◌≡◌, ℕ, zero, suc, ◌+◌, ◌<◌, ◌≤◌, true, false, ◌&&◌, ◌↔◌, List, [], ◌∷◌, length, get_or, Some, None, Option, ap, ◌∙◌, ⊎_elim, arith}
+use Rattle.std.proofs.Common.{◌≡◌, ℕ, suc, ◌+◌, ◌<◌, ◌≤◌, true, false, ◌&&◌, ◌↔◌, List, [], ◌∷◌, length, get_or, Some, None, Option, ap, ◌∙◌, ⊎_elim, arith}
 use Rattle.std.proofs.lemmas.Bool.Decides.{nat_tests}
 use Rattle.std.proofs.lemmas.Bool.{cases_Bool}
 use Rattle.model.specs.declared.outcome.Unfitness.{Unfitness}
@@ -12,6 +12,7 @@ use Rattle.model.specs.Plan.{Task, IsPlan}
 use Rattle.model.specs.Rule.{AtOpenPlaces}
 use Rattle.model.specs.Site.{Site}
 use Rattle.model.proofs.Contact.{connected_is_contact}
+use Rattle.model.proofs.Tables.{from_first}
 
 -- A check finds nothing exactly if what it tests holds, and the checks in a row if each finds nothing.
 all_pass : (a b c d e f : Option Unfitness) → (first_of a (first_of b (first_of c (first_of d (first_of e f)))) ≡ None) ↔ ((a ≡ None) × (b ≡ None) × (c ≡ None) × (d ≡ None) × (e ≡ None) × (f ≡ None))
@@ -32,11 +33,10 @@ contact_passes s c r = grind (arith, connected_is_contact s c)
 -- The check of the places, for the carriers from number a on.
 
 open_cons : (s : Site) (x : ℕ) (xs : List ℕ) → AtOpenPlaces s (x ∷ xs) ↔ ((s.is_open x ≡ true) × AtOpenPlaces s xs)
-open_cons s x xs = (λ all. (all 0 (omega arith), λ k h. all (suc k) (omega arith)), from)
-  where
-    from : (s.is_open x ≡ true) × AtOpenPlaces s xs → AtOpenPlaces s (x ∷ xs)
-    from (here, later) zero h = here
-    from (here, later) (suc k) h = later k (omega arith)
+open_cons s x xs = (
+  λ all. (all 0 (omega arith), λ k h. all (suc k) (omega arith)),
+  λ (here, later). from_first (λ k. s.is_open (get_or (x ∷ xs) k 0) ≡ true) here later,
+)
 
 places_pass : (s : Site) (a : ℕ) (xs gs : List ℕ) → length xs ≡ length gs → (check_places s a xs gs ≡ None) ↔ (AtOpenPlaces s xs × AtOpenPlaces s gs)
 places_pass s a [] [] l = grind arith
@@ -71,7 +71,7 @@ lowest_closed s a (x ∷ xs) (g ∷ gs) u e = ⊎_elim
       names = low.names ∙ ap closed_at (omega arith);
       inside = omega arith;
       closed = low.closed;
-      open_below = below low.index low.open_below (grind arith);
+      open_below = from_first (BothOpen s (x ∷ xs) (g ∷ gs)) (grind arith) low.open_below;
     })
     (λ (shut : (s.is_open x && s.is_open g) ≡ false). record {
       index = 0;
@@ -81,10 +81,6 @@ lowest_closed s a (x ∷ xs) (g ∷ gs) u e = ⊎_elim
       open_below = λ j h. absurd (omega arith);
     })
     (cases_Bool (s.is_open x && s.is_open g))
-  where
-    below : (i : ℕ) → ((j : ℕ) → j < i → BothOpen s xs gs j) → BothOpen s (x ∷ xs) (g ∷ gs) 0 → (j : ℕ) → j < suc i → BothOpen s (x ∷ xs) (g ∷ gs) j
-    below i open_below here zero h = here
-    below i open_below here (suc j) h = open_below j (omega arith)
 
 -- All checks.
 

@@ -1,9 +1,14 @@
 -- Tables that are asked place by place.
-use Rattle.std.proofs.Common.{◌≡◌, ℕ, ◌<◌, List, length, get_or, set, replicate, arith}
+use Rattle.std.proofs.Common.{◌≡◌, ℕ, zero, suc, ◌<◌, List, length, get_or, set, replicate, arith}
 use Rattle.std.proofs.lemmas.List.{get_or-set_other, get_or-replicate, get_or_past, length-replicate}
 use Rattle.std.proofs.lemmas.Grind.{get_or-set_at}
 use Rattle.std.proofs.lemmas.Bool.Decides.{nat_tests}
 use Rattle.model.specs.Site.{at_place}
+
+-- What holds of 0, and of suc k for each k below n, holds of all below suc n.
+pub from_first : (P : ℕ → Type 0) {n : ℕ} → P 0 → ((k : ℕ) → k < n → P (suc k)) → (k : ℕ) → k < suc n → P k
+from_first P first later zero l = first
+from_first P first later (suc k) l = later k (omega arith)
 
 -- A table that holds one value everywhere, and has it for its default.
 pub same_everywhere : {A : Type 0} (n : ℕ) (v : A) (q : ℕ) → get_or (replicate n v) q v ≡ v
