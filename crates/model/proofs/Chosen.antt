@@ -1,5 +1,5 @@
 -- The computed path is the chosen one.
-use Rattle.std.proofs.Common.{◌≡◌, ℕ, zero, suc, ◌+◌, ◌-◌, ◌<◌, ◌≤◌, Bool, true, cond, ◌&&◌, eqb, ◌↔◌, List, [], ◌∷◌, map, length, get_or, Some, None, ◌⊎◌, Option, sym, refl, inl, inr, ap, ◌∙◌, ⊎_elim, zero-add, arith}
+use Rattle.std.proofs.Common.{◌≡◌, ℕ, zero, suc, ◌+◌, ◌-◌, ◌<◌, ◌≤◌, Bool, true, cond, if◌then◌else◌, ◌&&◌, eqb, ◌==◌, ◌↔◌, List, [], ◌∷◌, map, length, slice_index, slice_index_or, Some, None, ◌⊎◌, Option, sym, refl, inl, inr, ap, ◌∙◌, ⊎_elim, zero-add, arith}
 use mathlib.Core.Bool.{beq}
 use mathlib.Core.List.Memᴰ
 use mathlib.Core.List.{Memᴰ}
@@ -45,7 +45,7 @@ module _ (move : ℕ → Bool) (G : ℕ → List ℕ → Type 0) where
       least [] t = absurd t
       least (r ∷ w) (l, _, t) = not_after_cons q r way w l (λ e. first w (rw e t))
 
-  onward_first : (q : ℕ) (ways : List (Option (List ℕ))) → ((j r : ℕ) → q + j ≡ r → FirstOf (G r) (get_or ways j None)) → FirstOf (Step move G q) (onward move q ways)
+  onward_first : (q : ℕ) (ways : List (Option (List ℕ))) → ((j r : ℕ) → q + j ≡ r → FirstOf (G r) (slice_index_or ways j None)) → FirstOf (Step move G q) (onward move q ways)
   onward_first q [] h = none
     where
       none : (w : List ℕ) → Step move G q w → ⊥
@@ -58,12 +58,12 @@ module _ (move : ℕ → Bool) (G : ℕ → List ℕ → Type 0) where
       cond_both (move q) _ _ (FirstOf (Step move G q)) (λ m. step_first q way m (h 0 q (omega arith)))
       (λ m. first_of_same _ _ (step_later q (λ w n g. both_ways _ m n)) _ later)
 
-  onward_first_of_all : (ways : List (Option (List ℕ))) → ((r : ℕ) → FirstOf (G r) (get_or ways r None)) → FirstOf (Step move G 0) (onward move 0 ways)
+  onward_first_of_all : (ways : List (Option (List ℕ))) → ((r : ℕ) → FirstOf (G r) (slice_index_or ways r None)) → FirstOf (Step move G 0) (onward move 0 ways)
   onward_first_of_all ways h = onward_first 0 ways (λ j r at. rw (← at, zero-add) (h j))
 
 -- A table of the first ways from each place.
 table_first : (n : ℕ) (f : ℕ → Option (List ℕ)) (G : ℕ → List ℕ → Type 0) → ((p : ℕ) → FirstOf (G p) (f p)) → ((p : ℕ) (w : List ℕ) → G p w → p < n)
-    → (p : ℕ) → FirstOf (G p) (get_or (map f (range_with_len 0 n)) p None)
+    → (p : ℕ) → FirstOf (G p) (slice_index_or (map f (range_with_len 0 n)) p None)
 table_first n f G h inside p = ⊎_elim
     (λ l. rw (get_or-map-range_with_len f 0 n p p None l (omega arith)) (h p))
     (λ l. rw (get_or_past (map f (range_with_len 0 n)) p None (rw length-map-range_with_len l)) (λ w g. absurd (omega (arith, inside p w g))))
@@ -83,21 +83,21 @@ module _ (s : Site) (e : Errand) (b : ℕ) where
   way_inside : Lawful s → (k m p : ℕ) (w : List ℕ) → Way s e b k m p w → p < s.places
   way_inside lawful k m p w h = lawful.open_is_place p (grind (arith, way_stands k m p w h))
 
-  last_first : (m p : ℕ) → FirstOf (Way s e b 0 m p) (cond (may_stand s e b m p && eqb p e.goal) (Some []) None)
-  last_first m p = cond_both (may_stand s e b m p && eqb p e.goal) _ _ (FirstOf (Way s e b 0 m p))
+  last_first : (m p : ℕ) → FirstOf (Way s e b 0 m p) (if may_stand s e b m p && p == e.goal then Some [] else None)
+  last_first m p = cond_both (may_stand s e b m p && p == e.goal) _ _ (FirstOf (Way s e b 0 m p))
       (λ there. (grind (arith, nat_tests), λ q g j _. grind arith))
       (λ not_there q g. grind (arith, nat_tests))
 
   step_way : (k m p : ℕ) → may_stand s e b m p ≡ true → (w : List ℕ) → Step (s.has_move p) (Way s e b k (suc m)) 0 w ↔ Way s e b (suc k) m p w
   step_way k m p stand w = grind arith
 
-  next_first : (k m p : ℕ) (next : List (Option (List ℕ))) → ((q : ℕ) → FirstOf (Way s e b k (suc m) q) (get_or next q None))
-      → FirstOf (Way s e b (suc k) m p) (cond (may_stand s e b m p) (onward (s.has_move p) 0 next) None)
+  next_first : (k m p : ℕ) (next : List (Option (List ℕ))) → ((q : ℕ) → FirstOf (Way s e b k (suc m) q) (slice_index_or next q None))
+      → FirstOf (Way s e b (suc k) m p) (if may_stand s e b m p then onward (s.has_move p) 0 next else None)
   next_first k m p next h = cond_both (may_stand s e b m p) _ _ (FirstOf (Way s e b (suc k) m p))
       (λ stand. first_of_same _ _ (step_way k m p stand) _ (onward_first_of_all (s.has_move p) (Way s e b k (suc m)) next h))
       (λ closed w g. grind (arith, way_stands (suc k) m p w g))
 
-  ways_first : Lawful s → (k m p : ℕ) → FirstOf (Way s e b k m p) (get_or (ways s e b m k) p None)
+  ways_first : Lawful s → (k m p : ℕ) → FirstOf (Way s e b k m p) (slice_index_or (ways s e b m k) p None)
   ways_first lawful zero m p = table_first s.places _ (Way s e b 0 m) (last_first m) (way_inside lawful 0 m) p
   ways_first lawful (suc k) m p =
       table_first s.places _ (Way s e b (suc k) m) (λ q. next_first k m q (ways s e b (suc m) k) (ways_first lawful k (suc m))) (way_inside lawful (suc k) m) p
@@ -114,10 +114,10 @@ record Stands (s : Site) (e : Errand) (b m p : ℕ) : Type 0 where
   pub keeps : (c : Condition) → Memᴰ c e.conditions → Keeps e.carrier m p c
   pub at_goal : b ≤ m → p ≡ e.goal
 
-meets : (d : Demand) (q p : ℕ) → beq (eqb p q) (must_be d) ≡ true → Meets d q p
+meets : (d : Demand) (q p : ℕ) → beq (p == q) (must_be d) ≡ true → Meets d q p
 meets d q p h = grind (arith, nat_tests)
 
-test_of_meets : (d : Demand) (q p : ℕ) → Meets d q p → beq (eqb p q) (must_be d) ≡ true
+test_of_meets : (d : Demand) (q p : ℕ) → Meets d q p → beq (p == q) (must_be d) ≡ true
 test_of_meets d q p h = grind (arith, nat_tests)
 
 keeps_one : (a m p : ℕ) (c : Condition) → cond (eqb c.carrier a && eqb c.moment m) (beq (eqb p c.place) (must_be c.demand)) true ≡ true → Keeps a m p c
@@ -153,22 +153,22 @@ module _ (s : Site) (e : Errand) (b : ℕ) where
   way_long zero m p w h = grind arith
   way_long (suc k) m p w h = grind (arith, way_long k (suc m))
 
-  way_ends : (k m p : ℕ) (w : List ℕ) → Way s e b k m p w → get_or (p ∷ w) k 0 ≡ e.goal
+  way_ends : (k m p : ℕ) (w : List ℕ) → Way s e b k m p w → slice_index (p ∷ w) k ≡ e.goal
   way_ends zero m p w h = grind arith
   way_ends (suc k) m p w h = grind (arith, way_ends k (suc m))
 
-  way_moves : (k m p : ℕ) (w : List ℕ) → Way s e b k m p w → (i : ℕ) → i < k → s.has_move (get_or (p ∷ w) i 0) (get_or (p ∷ w) (suc i) 0) ≡ true
+  way_moves : (k m p : ℕ) (w : List ℕ) → Way s e b k m p w → (i : ℕ) → i < k → s.has_move (slice_index (p ∷ w) i) (slice_index (p ∷ w) (suc i)) ≡ true
   way_moves zero m p w h i l = absurd (omega arith)
   way_moves (suc k) m p w h zero l = grind arith
   way_moves (suc k) m p w h (suc i) l = grind (arith, way_moves k (suc m))
 
-  way_at : (k m p : ℕ) (w : List ℕ) → Way s e b k m p w → (i j : ℕ) → m + i ≡ j → i ≤ k → may_stand s e b j (get_or (p ∷ w) i 0) ≡ true
+  way_at : (k m p : ℕ) (w : List ℕ) → Way s e b k m p w → (i j : ℕ) → m + i ≡ j → i ≤ k → may_stand s e b j (slice_index (p ∷ w) i) ≡ true
   way_at k m p w h zero j at l = grind (arith, way_stands s e b k m p w h)
   way_at zero m p w h (suc i) j at l = absurd (omega arith)
   way_at (suc k) m p w h (suc i) j at l = grind (arith, way_at k (suc m))
 
-  way_from : (k m p : ℕ) (w : List ℕ) → length w ≡ k → ((i j : ℕ) → m + i ≡ j → i ≤ k → may_stand s e b j (get_or (p ∷ w) i 0) ≡ true)
-      → ((i : ℕ) → i < k → s.has_move (get_or (p ∷ w) i 0) (get_or (p ∷ w) (suc i) 0) ≡ true) → get_or (p ∷ w) k 0 ≡ e.goal → Way s e b k m p w
+  way_from : (k m p : ℕ) (w : List ℕ) → length w ≡ k → ((i j : ℕ) → m + i ≡ j → i ≤ k → may_stand s e b j (slice_index (p ∷ w) i) ≡ true)
+      → ((i : ℕ) → i < k → s.has_move (slice_index (p ∷ w) i) (slice_index (p ∷ w) (suc i)) ≡ true) → slice_index (p ∷ w) k ≡ e.goal → Way s e b k m p w
   way_from zero m p w long stand move ends = grind (arith, stand 0 m)
   way_from (suc k) m p [] long stand move ends = absurd (omega arith)
   way_from (suc k) m p (q ∷ w) long stand move ends = (
@@ -192,13 +192,13 @@ module _ (s : Site) (e : Errand) (b : ℕ) where
     λ m l k. (stands m k).at_goal l,
   )
     where
-      stands : (m : ℕ) → m ≤ e.horizon → Stands s e b m (get_or (e.start ∷ w) m 0)
+      stands : (m : ℕ) → m ≤ e.horizon → Stands s e b m (slice_index (e.start ∷ w) m)
       stands m l = (may_stand_stands s e b m _).0 (way_at e.horizon 0 e.start w h m m (zero-add m) l)
 
   way_of_path : (w : List ℕ) → IsPath s e (e.start ∷ w) → Stays e (e.start ∷ w) b → Way s e b e.horizon 0 e.start w
   way_of_path w path stays = way_from e.horizon 0 e.start w (omega arith) stand path.moves path.ends
     where
-      stand : (i j : ℕ) → 0 + i ≡ j → i ≤ e.horizon → may_stand s e b j (get_or (e.start ∷ w) i 0) ≡ true
+      stand : (i j : ℕ) → 0 + i ≡ j → i ≤ e.horizon → may_stand s e b j (slice_index (e.start ∷ w) i) ≡ true
       stand i j at l = rw (← at, zero-add) ((may_stand_stands s e b i _).1 record {
         open_place = path.through_open i l;
         keeps = λ c t a on. rw on at (path.keeps c t a (omega arith));
@@ -285,7 +285,7 @@ chosen_none s e lawful never = ⊎_elim (λ (x, is). absurd (never x.places (cho
 
 -- There is one chosen path.
 
-same_until : (p q : List ℕ) → NotAfter p q → NotAfter q p → (m j : ℕ) → j < m → get_or p j 0 ≡ get_or q j 0
+same_until : (p q : List ℕ) → NotAfter p q → NotAfter q p → (m j : ℕ) → j < m → slice_index p j ≡ slice_index q j
 same_until p q h k zero j l = absurd (omega arith)
 same_until p q h k (suc m) j l =
     let same = same_until p q h k m in
@@ -319,7 +319,7 @@ arrival_from e q zero l h = (0, record { in_time = l; stays = h; not_sooner = λ
 arrival_from e q (suc b) l h = ⊎_elim
     (λ at. arrival_from e q b (omega arith) (λ m k n. grind (arith, at, h m)))
     (λ away. (suc b, record { in_time = l; stays = h; not_sooner = λ c _ sooner. grind (arith, away, sooner b) }))
-    (cases_eq (get_or q b 0) e.goal)
+    (cases_eq (slice_index q b) e.goal)
 
 pub arrival_exists : (s : Site) (e : Errand) (q : List ℕ) → IsPath s e q → (a : ℕ) × Arrives e q a
 arrival_exists s e q path = arrival_from e q e.horizon (omega arith) (stays_at_end s e q path)

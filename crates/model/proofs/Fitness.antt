@@ -1,5 +1,5 @@
 -- The checks find nothing exactly where all is fit, and name the lowest carrier whose start or goal is closed.
-use Rattle.std.proofs.Common.{◌≡◌, ℕ, suc, ◌+◌, ◌<◌, ◌≤◌, true, false, ◌&&◌, ◌↔◌, List, [], ◌∷◌, length, get_or, Some, None, Option, ap, ◌∙◌, ⊎_elim, arith}
+use Rattle.std.proofs.Common.{◌≡◌, ℕ, suc, ◌+◌, ◌<◌, ◌≤◌, true, false, ◌&&◌, ◌↔◌, List, [], ◌∷◌, length, slice_index, Some, None, Option, ap, ◌∙◌, ⊎_elim, arith}
 use Rattle.std.proofs.lemmas.Bool.Decides.{nat_tests}
 use Rattle.std.proofs.lemmas.Bool.{cases_Bool}
 use Rattle.model.specs.declared.outcome.Unfitness.{Unfitness}
@@ -35,7 +35,7 @@ contact_passes s c r = grind (arith, connected_is_contact s c)
 open_cons : (s : Site) (x : ℕ) (xs : List ℕ) → AtOpenPlaces s (x ∷ xs) ↔ ((s.is_open x ≡ true) × AtOpenPlaces s xs)
 open_cons s x xs = (
   λ all. (all 0 (omega arith), λ k h. all (suc k) (omega arith)),
-  λ (here, later). from_first (λ k. s.is_open (get_or (x ∷ xs) k 0) ≡ true) here later,
+  λ (here, later). from_first (λ k. s.is_open (slice_index (x ∷ xs) k) ≡ true) here later,
 )
 
 places_pass : (s : Site) (a : ℕ) (xs gs : List ℕ) → length xs ≡ length gs → (check_places s a xs gs ≡ None) ↔ (AtOpenPlaces s xs × AtOpenPlaces s gs)
@@ -46,7 +46,7 @@ places_pass s a (x ∷ xs) (g ∷ gs) l = grind (arith, open_cons s x xs, open_c
 
 -- The start and the goal of the carrier at index i are open.
 abbrev BothOpen : Site → List ℕ → List ℕ → ℕ → Type 0
-BothOpen s xs gs i = (s.is_open (get_or xs i 0) ≡ true) × (s.is_open (get_or gs i 0) ≡ true)
+BothOpen s xs gs i = (s.is_open (slice_index xs i) ≡ true) × (s.is_open (slice_index gs i) ≡ true)
 
 -- The refusal that names carrier n.
 abbrev closed_at : ℕ → Unfitness

@@ -1,5 +1,5 @@
 -- Yield and Three-way keep the laws of a rule.
-use Rattle.std.proofs.Common.{◌≡◌, ℕ, zero, suc, ◌+◌, ◌<◌, ◌≤◌, true, false, not, ◌&&◌, ◌||◌, eqb, ltb, ◌⊎◌, ◌↔◌, List, [], ◌∷◌, length, get_or, Some, None, Decides, Option, refl, inl, inr, ⊎_elim, arith}
+use Rattle.std.proofs.Common.{◌≡◌, ℕ, zero, suc, ◌+◌, ◌<◌, ◌≤◌, true, false, not, ◌&&◌, ◌||◌, nat_lt, ◌==◌, ◌⊎◌, ◌↔◌, List, [], ◌∷◌, length, slice_index, Some, None, Decides, Option, refl, inl, inr, ⊎_elim, arith}
 use mathlib.Core.List.Memᴰ
 use mathlib.Core.List.{Memᴰ}
 use Rattle.std.specs.List.{range_with_len, flat_map}
@@ -17,17 +17,17 @@ use Rattle.model.specs.Site.{Site}
 use Rattle.model.proofs.Contact.{connected_is_contact, out_of_contact}
 
 -- The test of a configuration's range says what `InRange` says.
-each_below_decides : (n : ℕ) (c : List ℕ) → Decides (each_below n c) ((k : ℕ) → k < length c → get_or c k 0 < n)
+each_below_decides : (n : ℕ) (c : List ℕ) → Decides (each_below n c) ((k : ℕ) → k < length c → slice_index c k < n)
 each_below_decides n c =
     Decides-like _ (λ all k h. all k 0 h) (All-from_get_or (λ p. p < n) c 0)
-    (Decides-by_and (λ p. ltb p n) (λ p. p < n) (each_below n) (λ p. Decides-ltb p n) refl (λ _ _. refl) c)
+    (Decides-by_and (λ p. nat_lt p n) (λ p. p < n) (each_below n) (λ p. Decides-ltb p n) refl (λ _ _. refl) c)
 
 is_in_range : (s : Site) (c : List ℕ) (i : Item) → in_range s c i ≡ true → InRange s c i
 is_in_range s c i e = grind (arith, nat_tests, (each_below_decides s.places c).0)
 
 -- Some carrier stands elsewhere in d than in c.
 abbrev Moved : List ℕ → List ℕ → Type 0
-Moved c d = (k : ℕ) × (k < length c) × (get_or d k 0 ≡ get_or c k 0 → ⊥)
+Moved c d = (k : ℕ) × (k < length c) × (slice_index d k ≡ slice_index c k → ⊥)
 
 same_or_moved : (c d : List ℕ) → length d ≡ length c → (d ≡ c) ⊎ Moved c d
 same_or_moved [] [] l = inl refl
@@ -40,13 +40,13 @@ same_or_moved (p ∷ c) (q ∷ d) l = ⊎_elim
 
 -- Yield's item for the carrier at index k: it must not be at its own place.
 abbrev away : List ℕ → ℕ → Item
-away c k = record { carrier = suc k; place = get_or c k 0; demand = MustNotBe }
+away c k = record { carrier = suc k; place = slice_index c k; demand = MustNotBe }
 
-yields_away : (s : Site) (c : List ℕ) (k : ℕ) → is_connected s c ≡ false → ((j : ℕ) → j < length c → get_or c j 0 < s.places) → k < length c → yields s c (away c k) ≡ true
+yields_away : (s : Site) (c : List ℕ) (k : ℕ) → is_connected s c ≡ false → ((j : ℕ) → j < length c → slice_index c j < s.places) → k < length c → yields s c (away c k) ≡ true
 yields_away s c k out places h = grind (arith, nat_tests, places k h, (each_below_decides s.places c).1 places)
 
 -- Of the items `leaves` and `goes` a carrier meets none where it stands.
-unmet : (d : Demand) (v own : ℕ) → ((not (must_be d) && eqb v own) || (must_be d && not (eqb v own))) ≡ true → Meets d v own → ⊥
+unmet : (d : Demand) (v own : ℕ) → ((not (must_be d) && v == own) || (must_be d && not (v == own))) ≡ true → Meets d v own → ⊥
 unmet d v own e m = grind (arith, nat_tests)
 
 -- A rule keeps the laws if it lists Yield's items and, besides them, only that a carrier must be at another place than its own.
@@ -80,7 +80,7 @@ record Hearer (s : Site) (a v k : ℕ) (c : List ℕ) : Type 0 where
   pub index : ℕ
   pub inside : index < length c
   pub another : k + index ≡ a → ⊥
-  pub contact : s.in_contact (get_or c index 0) v ≡ true
+  pub contact : s.in_contact (slice_index c index) v ≡ true
 
 hearer : (s : Site) (a k : ℕ) (c : List ℕ) (v : ℕ) → hears_another s a k c v ≡ true → Hearer s a v k c
 hearer s a k [] v e = cc
@@ -88,9 +88,9 @@ hearer s a k (p ∷ c) v e = ⊎_elim
     (λ here. record { index = 0; inside = omega arith; another = grind (arith, nat_tests, here); contact = grind (arith, here) })
     (λ later. let h = hearer s a (suc k) c v later in
     record { index = suc h.index; inside = omega (arith, h.inside); another = λ same. h.another (omega arith); contact = h.contact })
-    (or_cases (not (eqb k a) && s.in_contact p v) (hears_another s a (suc k) c v) e)
+    (or_cases (not (k == a) && s.in_contact p v) (hears_another s a (suc k) c v) e)
 
-of_hearer : (s : Site) (a k : ℕ) (c : List ℕ) (v j : ℕ) → j < length c → (k + j ≡ a → ⊥) → s.in_contact (get_or c j 0) v ≡ true → hears_another s a k c v ≡ true
+of_hearer : (s : Site) (a k : ℕ) (c : List ℕ) (v j : ℕ) → j < length c → (k + j ≡ a → ⊥) → s.in_contact (slice_index c j) v ≡ true → hears_another s a k c v ≡ true
 of_hearer s a k [] v j l n t = absurd (omega arith)
 of_hearer s a k (p ∷ c) v zero l n t = grind (arith, nat_tests)
 of_hearer s a k (p ∷ c) v (suc j) l n t = grind (arith, of_hearer s a (suc k) c v j (omega arith) (λ e. n (omega arith)) t)
