@@ -1,7 +1,6 @@
 -- A new search is good.
-use Rattle.std.proofs.Common.{◌≡◌, ℕ, List, [], length, Some, None, Option, sym, refl, ◌∙◌, subst, inl, inr, arith}
+use Rattle.std.proofs.Common.{◌≡◌, ℕ, List, [], length, Some, None, Option, refl, inl, inr, arith}
 use mathlib.Core.List.Memᴰ
-use mathlib.Core.List.{Memᴰ}
 use Rattle.std.proofs.lemmas.List.{nil_from_length}
 use Rattle.model.specs.declared.outcome.Outcome.TheVariants.{Running}
 use Rattle.model.specs.declared.outcome.Unfitness.{Unfitness}
@@ -9,12 +8,11 @@ use Rattle.model.specs.Begin.{fresh, with_root, begun, begin}
 use Rattle.model.specs.Execution.{execution, latest}
 use Rattle.model.specs.Fitness.{unfitness, Fit}
 use Rattle.model.specs.Nodes.{root}
-use Rattle.model.specs.OpenList.{Pair, InOrder}
+use Rattle.model.specs.OpenList.{Pair}
 use Rattle.model.specs.Path.{TimedPath}
 use Rattle.model.specs.Site.{Lawful}
 use Rattle.model.specs.State.{Problem, State}
 use Rattle.model.proofs.Covering.{Ready, fewer_left, NewNode, node_added}
-use Rattle.model.proofs.Execution.{never_none}
 use Rattle.model.proofs.Fitness.{fit_exactly}
 use Rattle.model.proofs.Good.{Good, still_running}
 use Rattle.model.proofs.Waiting.{Timely, Kept, kept_has_execution}
@@ -29,8 +27,8 @@ module _ (p : Problem) (lawful : Lawful p.site) (pairs : List Pair) (room : ℕ)
   nothing_yet fits = record {
     crew = fits.goal_for_each;
     family = λ j h. absurd (omega arith);
-    opened = λ a h. absurd (Memᴰ.not-nil (subst (Memᴰ a) none_open h));
-    ordered = subst InOrder (sym none_open) tt;
+    opened = λ a h. absurd (Memᴰ.not-nil (rw none_open at h));
+    ordered = rw none_open tt;
     counted = omega (arith, fits.list_is_empty);
     few = omega arith;
     roomy = fits.list_has_room;
@@ -47,7 +45,7 @@ module _ (p : Problem) (lawful : Lawful p.site) (pairs : List Pair) (room : ℕ)
   keeps_nothing q c h = absurd (Memᴰ.not-nil h)
 
   rooted : Fit p.site p.task (length pairs) room → (r : Option (List TimedPath)) → execution p.site p.task [] ≡ r → Good p (with_root r new_state)
-  rooted fits None e = still_running refl (fewer_left (nothing_yet fits) (λ q _. let has = kept_has_execution p lawful q [] (keeps_nothing q) in never_none has.0 (sym e ∙ has.1)))
+  rooted fits None e = still_running refl (fewer_left (nothing_yet fits) (λ q _. let (x, has) = kept_has_execution p lawful q [] (keeps_nothing q) in cc))
   rooted fits (Some x) e = still_running refl (node_added p lawful new_state (root (latest x)) (nothing_yet fits) new (λ q _. inl (keeps_nothing q)))
     where
       new : NewNode p new_state (root (latest x)) [] x
@@ -62,12 +60,4 @@ module _ (p : Problem) (lawful : Lawful p.site) (pairs : List Pair) (room : ℕ)
 
 -- It has made no turn.
 pub begin_new : (p : Problem) (pairs : List Pair) (room : ℕ) → (begin p pairs room).turns ≡ 0
-begin_new p pairs room = go (unfitness p.site p.task (length pairs) room)
-  where
-    with_any_root : (r : Option (List TimedPath)) → (with_root r (fresh pairs room Running)).turns ≡ 0
-    with_any_root None = refl
-    with_any_root (Some x) = refl
-
-    go : (u : Option Unfitness) → (begun p pairs room u).turns ≡ 0
-    go None = with_any_root (execution p.site p.task [])
-    go (Some u) = refl
+begin_new p pairs room = grind arith

@@ -1,5 +1,5 @@
 -- The computed path is the chosen one.
-use Rattle.std.proofs.Common.{◌≡◌, ℕ, zero, suc, ◌+◌, ◌-◌, ◌<◌, ◌≤◌, Bool, true, false, cond, ◌&&◌, ◌||◌, eqb, ltb, ◌↔◌, List, [], ◌∷◌, map, length, get_or, Some, None, Option, sym, refl, ap, ◌∙◌, subst, ⊎_elim, add-zero, zero-add, arith}
+use Rattle.std.proofs.Common.{◌≡◌, ℕ, zero, suc, ◌+◌, ◌-◌, ◌<◌, ◌≤◌, Bool, true, cond, if◌then◌else◌, ◌&&◌, eqb, ◌==◌, ◌↔◌, List, [], ◌∷◌, map, length, slice_index, slice_index_or, Some, None, ◌⊎◌, Option, sym, refl, inl, inr, ap, ◌∙◌, ⊎_elim, zero-add, arith}
 use mathlib.Core.Bool.{beq}
 use mathlib.Core.List.Memᴰ
 use mathlib.Core.List.{Memᴰ}
@@ -7,10 +7,9 @@ use Rattle.std.specs.List.{range_with_len}
 use Rattle.std.proofs.lemmas.List.{get_or_past, ext_get_or}
 use Rattle.std.proofs.lemmas.List.FromFn.{get_or-map-range_with_len, length-map-range_with_len}
 use Rattle.std.proofs.lemmas.Bool.Decides.{nat_tests}
-use Rattle.std.proofs.lemmas.Bool.{and_parts, and_from, or_left, or_right, cases_lt, cases_eq, eqb-true, eq-eqb, lt-ltb, cond_both, both_ways}
+use Rattle.std.proofs.lemmas.Bool.{and_parts, and_from, cases_lt, cases_eq, cond_both, both_ways}
 use Rattle.model.specs.declared.item.Condition.{Condition}
 use Rattle.model.specs.declared.item.Demand.{Demand}
-use Rattle.model.specs.declared.item.Demand.TheVariants.{MustBe, MustNotBe}
 use Rattle.model.specs.Chosen.{allowed, may_stand, onward, ways, first_way, arriving, least_arrival, chosen, PathsAreComputed}
 use Rattle.model.specs.Item.{Meets, must_be}
 use Rattle.model.specs.Path.{Errand, under, IsPath, Stays, Arrives, NotAfter, TimedPath, IsChosen}
@@ -36,11 +35,8 @@ Step move G q (r ∷ w) = (q ≤ r) × (move r ≡ true) × G r w
 
 module _ (move : ℕ → Bool) (G : ℕ → List ℕ → Type 0) where
   step_later : (q : ℕ) → ((w : List ℕ) → move q ≡ true → G q w → ⊥) → (w : List ℕ) → Step move G (suc q) w ↔ Step move G q w
-  step_later q never [] = (λ t. t, λ t. t)
-  step_later q never (r ∷ w) = (
-    λ (l, m, g). (omega arith, m, g),
-    λ (l, m, g). ⊎_elim (λ e. absurd (never w (rw e m) (rw e g))) (λ n. (omega arith, m, g)) (cases_eq q r),
-  )
+  step_later q never [] = grind arith
+  step_later q never (r ∷ w) = grind (arith, never w)
 
   step_first : (q : ℕ) (way : List ℕ) → move q ≡ true → FirstOf (G q) (Some way) → FirstOf (Step move G q) (Some (q ∷ way))
   step_first q way m (g, first) = ((omega arith, m, g), least)
@@ -49,7 +45,7 @@ module _ (move : ℕ → Bool) (G : ℕ → List ℕ → Type 0) where
       least [] t = absurd t
       least (r ∷ w) (l, _, t) = not_after_cons q r way w l (λ e. first w (rw e t))
 
-  onward_first : (q : ℕ) (ways : List (Option (List ℕ))) → ((j r : ℕ) → q + j ≡ r → FirstOf (G r) (get_or ways j None)) → FirstOf (Step move G q) (onward move q ways)
+  onward_first : (q : ℕ) (ways : List (Option (List ℕ))) → ((j r : ℕ) → q + j ≡ r → FirstOf (G r) (slice_index_or ways j None)) → FirstOf (Step move G q) (onward move q ways)
   onward_first q [] h = none
     where
       none : (w : List ℕ) → Step move G q w → ⊥
@@ -62,12 +58,12 @@ module _ (move : ℕ → Bool) (G : ℕ → List ℕ → Type 0) where
       cond_both (move q) _ _ (FirstOf (Step move G q)) (λ m. step_first q way m (h 0 q (omega arith)))
       (λ m. first_of_same _ _ (step_later q (λ w n g. both_ways _ m n)) _ later)
 
-  onward_first_of_all : (ways : List (Option (List ℕ))) → ((r : ℕ) → FirstOf (G r) (get_or ways r None)) → FirstOf (Step move G 0) (onward move 0 ways)
-  onward_first_of_all ways h = onward_first 0 ways (λ j r at. subst (λ q. FirstOf (G q) (get_or ways j None)) (sym (zero-add j) ∙ at) (h j))
+  onward_first_of_all : (ways : List (Option (List ℕ))) → ((r : ℕ) → FirstOf (G r) (slice_index_or ways r None)) → FirstOf (Step move G 0) (onward move 0 ways)
+  onward_first_of_all ways h = onward_first 0 ways (λ j r at. rw (← at, zero-add) (h j))
 
 -- A table of the first ways from each place.
 table_first : (n : ℕ) (f : ℕ → Option (List ℕ)) (G : ℕ → List ℕ → Type 0) → ((p : ℕ) → FirstOf (G p) (f p)) → ((p : ℕ) (w : List ℕ) → G p w → p < n)
-    → (p : ℕ) → FirstOf (G p) (get_or (map f (range_with_len 0 n)) p None)
+    → (p : ℕ) → FirstOf (G p) (slice_index_or (map f (range_with_len 0 n)) p None)
 table_first n f G h inside p = ⊎_elim
     (λ l. rw (get_or-map-range_with_len f 0 n p p None l (omega arith)) (h p))
     (λ l. rw (get_or_past (map f (range_with_len 0 n)) p None (rw length-map-range_with_len l)) (λ w g. absurd (omega (arith, inside p w g))))
@@ -82,39 +78,26 @@ Way s e b (suc k) m p (q ∷ w) = (may_stand s e b m p ≡ true) × (s.has_move 
 
 module _ (s : Site) (e : Errand) (b : ℕ) where
   way_stands : (k m p : ℕ) (w : List ℕ) → Way s e b k m p w → may_stand s e b m p ≡ true
-  way_stands zero m p [] h = h.0
-  way_stands zero m p (q ∷ w) h = absurd h
-  way_stands (suc k) m p [] h = absurd h
-  way_stands (suc k) m p (q ∷ w) h = h.0
+  way_stands k m p w h = grind arith
 
   way_inside : Lawful s → (k m p : ℕ) (w : List ℕ) → Way s e b k m p w → p < s.places
-  way_inside lawful k m p w h = lawful.open_is_place p (and_parts _ _ (and_parts _ _ (way_stands k m p w h)).0).0
+  way_inside lawful k m p w h = lawful.open_is_place p (grind (arith, way_stands k m p w h))
 
-  last_first : (m p : ℕ) → FirstOf (Way s e b 0 m p) (cond (may_stand s e b m p && eqb p e.goal) (Some []) None)
-  last_first m p = cond_both (may_stand s e b m p && eqb p e.goal) _ _ (FirstOf (Way s e b 0 m p)) some none
-    where
-      some : (may_stand s e b m p && eqb p e.goal) ≡ true → FirstOf (Way s e b 0 m p) (Some [])
-      some h = let (stand, at) = and_parts (may_stand s e b m p) _ h in ((stand, eqb-true _ _ at), least)
-        where
-          least : (q : List ℕ) → Way s e b 0 m p q → NotAfter [] q
-          least [] g = λ j _. omega arith
-          least (r ∷ q) g = absurd g
-
-      none : (may_stand s e b m p && eqb p e.goal) ≡ false → FirstOf (Way s e b 0 m p) None
-      none h [] (stand, at) = both_ways _ h (and_from _ _ stand (eq-eqb _ _ at))
-      none h (q ∷ w) g = g
+  last_first : (m p : ℕ) → FirstOf (Way s e b 0 m p) (if may_stand s e b m p && p == e.goal then Some [] else None)
+  last_first m p = cond_both (may_stand s e b m p && p == e.goal) _ _ (FirstOf (Way s e b 0 m p))
+      (λ there. (grind (arith, nat_tests), λ q g j _. grind arith))
+      (λ not_there q g. grind (arith, nat_tests))
 
   step_way : (k m p : ℕ) → may_stand s e b m p ≡ true → (w : List ℕ) → Step (s.has_move p) (Way s e b k (suc m)) 0 w ↔ Way s e b (suc k) m p w
-  step_way k m p stand [] = (λ h. h, λ h. h)
-  step_way k m p stand (q ∷ w) = (λ (_, t, g). (stand, t, g), λ (_, t, g). (omega arith, t, g))
+  step_way k m p stand w = grind arith
 
-  next_first : (k m p : ℕ) (next : List (Option (List ℕ))) → ((q : ℕ) → FirstOf (Way s e b k (suc m) q) (get_or next q None))
-      → FirstOf (Way s e b (suc k) m p) (cond (may_stand s e b m p) (onward (s.has_move p) 0 next) None)
+  next_first : (k m p : ℕ) (next : List (Option (List ℕ))) → ((q : ℕ) → FirstOf (Way s e b k (suc m) q) (slice_index_or next q None))
+      → FirstOf (Way s e b (suc k) m p) (if may_stand s e b m p then onward (s.has_move p) 0 next else None)
   next_first k m p next h = cond_both (may_stand s e b m p) _ _ (FirstOf (Way s e b (suc k) m p))
       (λ stand. first_of_same _ _ (step_way k m p stand) _ (onward_first_of_all (s.has_move p) (Way s e b k (suc m)) next h))
-      (λ closed w g. both_ways _ closed (way_stands (suc k) m p w g))
+      (λ closed w g. grind (arith, way_stands (suc k) m p w g))
 
-  ways_first : Lawful s → (k m p : ℕ) → FirstOf (Way s e b k m p) (get_or (ways s e b m k) p None)
+  ways_first : Lawful s → (k m p : ℕ) → FirstOf (Way s e b k m p) (slice_index_or (ways s e b m k) p None)
   ways_first lawful zero m p = table_first s.places _ (Way s e b 0 m) (last_first m) (way_inside lawful 0 m) p
   ways_first lawful (suc k) m p =
       table_first s.places _ (Way s e b (suc k) m) (λ q. next_first k m q (ways s e b (suc m) k) (ways_first lawful k (suc m))) (way_inside lawful (suc k) m) p
@@ -131,13 +114,11 @@ record Stands (s : Site) (e : Errand) (b m p : ℕ) : Type 0 where
   pub keeps : (c : Condition) → Memᴰ c e.conditions → Keeps e.carrier m p c
   pub at_goal : b ≤ m → p ≡ e.goal
 
-meets : (d : Demand) (q p : ℕ) → beq (eqb p q) (must_be d) ≡ true → Meets d q p
-meets MustBe q p h = grind (arith, nat_tests)
-meets MustNotBe q p h = grind (arith, nat_tests)
+meets : (d : Demand) (q p : ℕ) → beq (p == q) (must_be d) ≡ true → Meets d q p
+meets d q p h = grind (arith, nat_tests)
 
-test_of_meets : (d : Demand) (q p : ℕ) → Meets d q p → beq (eqb p q) (must_be d) ≡ true
-test_of_meets MustBe q p h = grind (arith, nat_tests)
-test_of_meets MustNotBe q p h = grind (arith, nat_tests)
+test_of_meets : (d : Demand) (q p : ℕ) → Meets d q p → beq (p == q) (must_be d) ≡ true
+test_of_meets d q p h = grind (arith, nat_tests)
 
 keeps_one : (a m p : ℕ) (c : Condition) → cond (eqb c.item.carrier a && eqb c.moment m) (beq (eqb p c.item.place) (must_be c.item.demand)) true ≡ true → Keeps a m p c
 keeps_one a m p c h at on = meets c.item.demand c.item.place p (grind (arith, nat_tests))
@@ -149,7 +130,7 @@ test_of_keeps a m p c h = cond_both (eqb c.item.carrier a && eqb c.moment m) _ _
 
 pub allowed_keeps : (a m p : ℕ) (cs : List Condition) → allowed a cs m p ≡ true → (c : Condition) → Memᴰ c cs → Keeps a m p c
 allowed_keeps a m p [] h c t = elim t [ ]
-allowed_keeps a m p (x ∷ cs) h c (Memᴰ.head e) = subst (Keeps a m p) (sym e) (keeps_one a m p x (and_parts _ _ h).0)
+allowed_keeps a m p (x ∷ cs) h c (Memᴰ.head e) = rw e (keeps_one a m p x (and_parts _ _ h).0)
 allowed_keeps a m p (x ∷ cs) h c (Memᴰ.tail t) = allowed_keeps a m p cs (and_parts _ _ h).1 c t
 
 pub allowed_of_keeps : (a m p : ℕ) (cs : List Condition) → ((c : Condition) → Memᴰ c cs → Keeps a m p c) → allowed a cs m p ≡ true
@@ -160,46 +141,35 @@ may_stand_stands : (s : Site) (e : Errand) (b m p : ℕ) → may_stand s e b m p
 may_stand_stands s e b m p = (to, from)
   where
     to : may_stand s e b m p ≡ true → Stands s e b m p
-    to h =
-        let (here, late) = and_parts _ (ltb m b || eqb p e.goal) h in
-        let (is, fine) = and_parts (s.is_open p) (allowed e.carrier e.conditions m p) here in
-        record { open_place = is; keeps = allowed_keeps _ m p _ fine; at_goal = λ l. grind (arith, nat_tests) }
+    to h = record { open_place = grind arith; keeps = allowed_keeps _ m p _ (grind arith); at_goal = λ l. grind (arith, nat_tests) }
 
     from : Stands s e b m p → may_stand s e b m p ≡ true
-    from t = and_from _ _ (and_from _ _ t.open_place (allowed_of_keeps _ m p _ t.keeps))
-        (⊎_elim (λ l. or_left _ _ (lt-ltb m b l)) (λ l. or_right _ _ (eq-eqb _ _ (t.at_goal l))) (cases_lt m b))
+    from t = grind (arith, nat_tests, allowed_of_keeps e.carrier m p e.conditions t.keeps)
 
 -- A way, moment by moment.
 
 module _ (s : Site) (e : Errand) (b : ℕ) where
   way_long : (k m p : ℕ) (w : List ℕ) → Way s e b k m p w → length w ≡ k
-  way_long zero m p [] h = refl
-  way_long zero m p (q ∷ w) h = absurd h
-  way_long (suc k) m p [] h = absurd h
-  way_long (suc k) m p (q ∷ w) h = ap suc (way_long k (suc m) q w h.2)
+  way_long zero m p w h = grind arith
+  way_long (suc k) m p w h = grind (arith, way_long k (suc m))
 
-  way_ends : (k m p : ℕ) (w : List ℕ) → Way s e b k m p w → get_or (p ∷ w) k 0 ≡ e.goal
-  way_ends zero m p [] h = h.1
-  way_ends zero m p (q ∷ w) h = absurd h
-  way_ends (suc k) m p [] h = absurd h
-  way_ends (suc k) m p (q ∷ w) h = way_ends k (suc m) q w h.2
+  way_ends : (k m p : ℕ) (w : List ℕ) → Way s e b k m p w → slice_index (p ∷ w) k ≡ e.goal
+  way_ends zero m p w h = grind arith
+  way_ends (suc k) m p w h = grind (arith, way_ends k (suc m))
 
-  way_moves : (k m p : ℕ) (w : List ℕ) → Way s e b k m p w → (i : ℕ) → i < k → s.has_move (get_or (p ∷ w) i 0) (get_or (p ∷ w) (suc i) 0) ≡ true
+  way_moves : (k m p : ℕ) (w : List ℕ) → Way s e b k m p w → (i : ℕ) → i < k → s.has_move (slice_index (p ∷ w) i) (slice_index (p ∷ w) (suc i)) ≡ true
   way_moves zero m p w h i l = absurd (omega arith)
-  way_moves (suc k) m p [] h i l = absurd h
-  way_moves (suc k) m p (q ∷ w) h zero l = h.1
-  way_moves (suc k) m p (q ∷ w) h (suc i) l = way_moves k (suc m) q w h.2 i (omega arith)
+  way_moves (suc k) m p w h zero l = grind arith
+  way_moves (suc k) m p w h (suc i) l = grind (arith, way_moves k (suc m))
 
-  way_at : (k m p : ℕ) (w : List ℕ) → Way s e b k m p w → (i j : ℕ) → m + i ≡ j → i ≤ k → may_stand s e b j (get_or (p ∷ w) i 0) ≡ true
-  way_at k m p w h zero j at l = rw (sym (add-zero m) ∙ at) at (way_stands s e b k m p w h)
+  way_at : (k m p : ℕ) (w : List ℕ) → Way s e b k m p w → (i j : ℕ) → m + i ≡ j → i ≤ k → may_stand s e b j (slice_index (p ∷ w) i) ≡ true
+  way_at k m p w h zero j at l = grind (arith, way_stands s e b k m p w h)
   way_at zero m p w h (suc i) j at l = absurd (omega arith)
-  way_at (suc k) m p [] h (suc i) j at l = absurd h
-  way_at (suc k) m p (q ∷ w) h (suc i) j at l = way_at k (suc m) q w h.2 i j (omega arith) (omega arith)
+  way_at (suc k) m p w h (suc i) j at l = grind (arith, way_at k (suc m))
 
-  way_from : (k m p : ℕ) (w : List ℕ) → length w ≡ k → ((i j : ℕ) → m + i ≡ j → i ≤ k → may_stand s e b j (get_or (p ∷ w) i 0) ≡ true)
-      → ((i : ℕ) → i < k → s.has_move (get_or (p ∷ w) i 0) (get_or (p ∷ w) (suc i) 0) ≡ true) → get_or (p ∷ w) k 0 ≡ e.goal → Way s e b k m p w
-  way_from zero m p [] long stand move ends = (stand 0 m (omega arith) (omega arith), ends)
-  way_from zero m p (q ∷ w) long stand move ends = absurd (omega arith)
+  way_from : (k m p : ℕ) (w : List ℕ) → length w ≡ k → ((i j : ℕ) → m + i ≡ j → i ≤ k → may_stand s e b j (slice_index (p ∷ w) i) ≡ true)
+      → ((i : ℕ) → i < k → s.has_move (slice_index (p ∷ w) i) (slice_index (p ∷ w) (suc i)) ≡ true) → slice_index (p ∷ w) k ≡ e.goal → Way s e b k m p w
+  way_from zero m p w long stand move ends = grind (arith, stand 0 m)
   way_from (suc k) m p [] long stand move ends = absurd (omega arith)
   way_from (suc k) m p (q ∷ w) long stand move ends = (
     stand 0 m (omega arith) (omega arith),
@@ -222,14 +192,14 @@ module _ (s : Site) (e : Errand) (b : ℕ) where
     λ m l k. (stands m k).at_goal l,
   )
     where
-      stands : (m : ℕ) → m ≤ e.horizon → Stands s e b m (get_or (e.start ∷ w) m 0)
+      stands : (m : ℕ) → m ≤ e.horizon → Stands s e b m (slice_index (e.start ∷ w) m)
       stands m l = (may_stand_stands s e b m _).0 (way_at e.horizon 0 e.start w h m m (zero-add m) l)
 
   way_of_path : (w : List ℕ) → IsPath s e (e.start ∷ w) → Stays e (e.start ∷ w) b → Way s e b e.horizon 0 e.start w
   way_of_path w path stays = way_from e.horizon 0 e.start w (omega arith) stand path.moves path.ends
     where
-      stand : (i j : ℕ) → 0 + i ≡ j → i ≤ e.horizon → may_stand s e b j (get_or (e.start ∷ w) i 0) ≡ true
-      stand i j at l = rw (sym at ∙ zero-add i) ((may_stand_stands s e b i _).1 record {
+      stand : (i j : ℕ) → 0 + i ≡ j → i ≤ e.horizon → may_stand s e b j (slice_index (e.start ∷ w) i) ≡ true
+      stand i j at l = rw (← at, zero-add) ((may_stand_stands s e b i _).1 record {
         open_place = path.through_open i l;
         keeps = λ c t a on. rw on at (path.keeps c t a (omega arith));
         at_goal = λ k. stays i k l;
@@ -243,7 +213,7 @@ onward_of_path : (s : Site) (e : Errand) (b : ℕ) (q : List ℕ) → IsPath s e
 onward_of_path s e b [] path stays = absurd (omega arith)
 onward_of_path s e b (p ∷ w) path stays =
     let same : p ∷ w ≡ e.start ∷ w = ap (λ x. x ∷ w) path.begins in
-    (w, sym same, way_of_path s e b w (subst (IsPath s e) same path) (subst (λ q. Stays e q b) same stays))
+    (w, sym same, way_of_path s e b w (rw same at path) (rw same at stays))
 
 -- Of the arrivals from b on, a is the least that has a way onward, and w is the first such way.
 record Least (s : Site) (e : Errand) (b a : ℕ) (w : List ℕ) : Type 0 where
@@ -259,7 +229,7 @@ LeastOf s e b k (Some x) = (w : List ℕ) × (e.start ∷ w ≡ x.places) × (x.
 module _ (s : Site) (e : Errand) where
   arriving_least : (b k : ℕ) (o : Option (List ℕ)) (later : Option TimedPath) → FirstOf (Onward s e b) o → LeastOf s e (suc b) k later → LeastOf s e b (suc k) (arriving e.start b o later)
   arriving_least b k (Some w) later (way, first) h = (w, refl, omega arith, record { way = way; first = first; least = λ i q l _. l })
-  arriving_least b k None None never h = λ i q l m g. ⊎_elim (λ e. never q (rw e g)) (λ n. h i q (omega arith) (omega arith) g) (cases_eq b i)
+  arriving_least b k None None never h = λ i q l m g. grind (arith, never q, h i q)
   arriving_least b k None (Some x) never (w, at, l, h) = (
     w,
     at,
@@ -267,7 +237,7 @@ module _ (s : Site) (e : Errand) where
     record {
       way = h.way;
       first = h.first;
-      least = λ i q m g. ⊎_elim (λ e. absurd (never q (rw e g))) (λ n. h.least i q (omega arith) g) (cases_eq b i);
+      least = λ i q m g. grind (arith, never q, h.least i q);
     },
   )
 
@@ -287,12 +257,12 @@ module _ (s : Site) (e : Errand) where
       earliest q b path stays = let (v, _, way) = onward_of_path s e b q path stays in h.least b v (omega arith) way
 
       first : (q : List ℕ) → (v : List ℕ) × (e.start ∷ v ≡ q) × Onward s e a v → NotAfter (e.start ∷ w) q
-      first q (v, at, way) = subst (NotAfter (e.start ∷ w)) at (not_after_cons e.start e.start w v (omega arith) (λ _. h.first v way))
+      first q (v, at, way) = rw at at (not_after_cons e.start e.start w v (omega arith) (λ _. h.first v way))
 
 pub chosen_sound : (s : Site) (e : Errand) (x : TimedPath) → Lawful s → chosen s e ≡ Some x → IsChosen s e x
 chosen_sound s e x lawful is =
-    let (w, at, l, h) = subst (LeastOf s e 0 (suc e.horizon)) is (least_arrival_least s e lawful (suc e.horizon) 0) in
-    subst (λ q. IsChosen s e (record { places = q; arrival = x.arrival })) at (least_chosen s e x.arrival w l h)
+    let (w, at, l, h) = rw is at (least_arrival_least s e lawful (suc e.horizon) 0) in
+    rw at at (least_chosen s e x.arrival w l h)
 
 -- A path is at the goal from the horizon on.
 pub stays_at_end : (s : Site) (e : Errand) (q : List ℕ) → IsPath s e q → Stays e q e.horizon
@@ -301,33 +271,28 @@ stays_at_end s e q path m l k = let same : e.horizon ≡ m = omega arith in rw s
 pub nothing_chosen : (s : Site) (e : Errand) (q : List ℕ) → Lawful s → chosen s e ≡ None → IsPath s e q → ⊥
 nothing_chosen s e q lawful none path =
     let (w, _, way) = onward_of_path s e e.horizon q path (stays_at_end s e q path) in
-    subst (LeastOf s e 0 (suc e.horizon)) none (least_arrival_least s e lawful (suc e.horizon) 0) e.horizon w (omega arith) (omega arith) way
+    (rw none at (least_arrival_least s e lawful (suc e.horizon) 0)) e.horizon w (omega arith) (omega arith) way
+
+some_or_none : {A : Type 0} (o : Option A) → ((x : A) × (o ≡ Some x)) ⊎ (o ≡ None)
+some_or_none (Some x) = inl (x, refl)
+some_or_none None = inr refl
 
 pub chosen_complete : (s : Site) (e : Errand) (q : List ℕ) → Lawful s → IsPath s e q → (x : TimedPath) × (chosen s e ≡ Some x)
-chosen_complete s e q lawful path = found (chosen s e) refl
-  where
-    found : (o : Option TimedPath) → chosen s e ≡ o → (x : TimedPath) × (chosen s e ≡ Some x)
-    found (Some x) is = (x, is)
-    found None none = absurd (nothing_chosen s e q lawful none path)
+chosen_complete s e q lawful path = ⊎_elim (λ found. found) (λ none. absurd (nothing_chosen s e q lawful none path)) (some_or_none (chosen s e))
 
 pub chosen_none : (s : Site) (e : Errand) → Lawful s → ((q : List ℕ) → IsPath s e q → ⊥) → chosen s e ≡ None
-chosen_none s e lawful never = found (chosen s e) refl
-  where
-    found : (o : Option TimedPath) → chosen s e ≡ o → chosen s e ≡ None
-    found (Some x) is = absurd (never x.places (chosen_sound s e x lawful is).is_path)
-    found None none = none
+chosen_none s e lawful never = ⊎_elim (λ (x, is). absurd (never x.places (chosen_sound s e x lawful is).is_path)) (λ none. none) (some_or_none (chosen s e))
 
 -- There is one chosen path.
 
-same_until : (p q : List ℕ) → NotAfter p q → NotAfter q p → (m j : ℕ) → j < m → get_or p j 0 ≡ get_or q j 0
+same_until : (p q : List ℕ) → NotAfter p q → NotAfter q p → (m j : ℕ) → j < m → slice_index p j ≡ slice_index q j
 same_until p q h k zero j l = absurd (omega arith)
-same_until p q h k (suc m) j l = ⊎_elim
-    (λ e. let same = same_until p q h k m in rw e (omega (arith, h m same, k m (λ i t. sym (same i t)))))
-    (λ n. same_until p q h k m j (omega arith))
-    (cases_eq j m)
+same_until p q h k (suc m) j l =
+    let same = same_until p q h k m in
+    grind (arith, h m same, k m (λ i t. sym (same i t)), same j)
 
 pub chosen_unique : (s : Site) (e : Errand) (x y : TimedPath) → IsChosen s e x → IsChosen s e y → x ≡ y
-chosen_unique s e x y cx cy = λ i. record { places = same_places i; arrival = same i }
+chosen_unique s e x y cx cy = grind (arith, same, same_places)
   where
     same : x.arrival ≡ y.arrival
     same = omega (arith, cx.earliest y.places y.arrival cy.is_path cy.arrives, cy.earliest x.places x.arrival cx.is_path cx.arrives)
@@ -352,9 +317,9 @@ chosen_is s e x lawful h =
 arrival_from : (e : Errand) (q : List ℕ) (b : ℕ) → b ≤ e.horizon → Stays e q b → (a : ℕ) × Arrives e q a
 arrival_from e q zero l h = (0, record { in_time = l; stays = h; not_sooner = λ b _ _. omega arith })
 arrival_from e q (suc b) l h = ⊎_elim
-    (λ at. arrival_from e q b (omega arith) (λ m k n. ⊎_elim (λ same. rw same at at) (λ other. h m (omega arith) n) (cases_eq b m)))
-    (λ away. (suc b, record { in_time = l; stays = h; not_sooner = λ c _ sooner. ⊎_elim (λ k. absurd (away (sooner b (omega arith) (omega arith)))) (λ k. k) (cases_lt c (suc b)) }))
-    (cases_eq (get_or q b 0) e.goal)
+    (λ at. arrival_from e q b (omega arith) (λ m k n. grind (arith, at, h m)))
+    (λ away. (suc b, record { in_time = l; stays = h; not_sooner = λ c _ sooner. grind (arith, away, sooner b) }))
+    (cases_eq (slice_index q b) e.goal)
 
 pub arrival_exists : (s : Site) (e : Errand) (q : List ℕ) → IsPath s e q → (a : ℕ) × Arrives e q a
 arrival_exists s e q path = arrival_from e q e.horizon (omega arith) (stays_at_end s e q path)
@@ -365,7 +330,7 @@ arrives_once e q a b h k = omega (arith, h.not_sooner b k.in_time k.stays, k.not
 -- The same errand under other conditions.
 
 arrives_under : (e : Errand) (cs : List Condition) (q : List ℕ) (a : ℕ) → Arrives e q a → Arrives (under e cs) q a
-arrives_under e cs q a h = record { in_time = h.in_time; stays = h.stays; not_sooner = h.not_sooner }
+arrives_under e cs q a h = assumption
 
 chosen_under : (s : Site) (e : Errand) (cs : List Condition) (x : TimedPath) → ((q : List ℕ) → IsPath s e q ↔ IsPath s (under e cs) q) → IsChosen s e x → IsChosen s (under e cs) x
 chosen_under s e cs x same h = record {
@@ -376,23 +341,15 @@ chosen_under s e cs x same h = record {
 }
 
 pub chosen_same : (s : Site) (e : Errand) (cs : List Condition) → Lawful s → ((q : List ℕ) → IsPath s e q ↔ IsPath s (under e cs) q) → chosen s e ≡ chosen s (under e cs)
-chosen_same s e cs lawful same = found (chosen s e) refl
-  where
-    found : (o : Option TimedPath) → chosen s e ≡ o → chosen s e ≡ chosen s (under e cs)
-    found (Some x) is = is ∙ sym (chosen_is s (under e cs) x lawful (chosen_under s e cs x same (chosen_sound s e x lawful is)))
-    found None none = none ∙ sym (chosen_none s (under e cs) lawful (λ q path. nothing_chosen s e q lawful none ((same q).1 path)))
+chosen_same s e cs lawful same = ⊎_elim
+    (λ (x, is). is ∙ sym (chosen_is s (under e cs) x lawful (chosen_under s e cs x same (chosen_sound s e x lawful is))))
+    (λ none. none ∙ sym (chosen_none s (under e cs) lawful (λ q path. nothing_chosen s e q lawful none ((same q).1 path))))
+    (some_or_none (chosen s e))
 
 -- One condition more.
 
 path_with_less : (s : Site) (e : Errand) (c : Condition) (q : List ℕ) → IsPath s (under e (c ∷ e.conditions)) q → IsPath s e q
-path_with_less s e c q h = record {
-  long = h.long;
-  begins = h.begins;
-  ends = h.ends;
-  moves = h.moves;
-  through_open = h.through_open;
-  keeps = λ d t. h.keeps d (Memᴰ.tail t);
-}
+path_with_less s e c q h = let kept = λ (d : Condition) (t : Memᴰ d e.conditions). h.keeps d (Memᴰ.tail t) in assumption
 
 path_with_other : (s : Site) (e : Errand) (c : Condition) (q : List ℕ) → (c.item.carrier ≡ e.carrier → ⊥) → IsPath s e q → IsPath s (under e (c ∷ e.conditions)) q
 path_with_other s e c q other h = record {

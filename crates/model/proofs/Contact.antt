@@ -1,34 +1,29 @@
 -- The computed marks are the carriers that are reached, and the lost carrier is the lowest that is not.
-use Rattle.std.proofs.Common.{◌≡◌, ℕ, zero, suc, ◌+◌, ◌<◌, ◌≤◌, Bool, true, false, not, ◌||◌, ◌⊎◌, ◌↔◌, List, [], ◌∷◌, length, get_or, replicate, is_some, Some, sym, refl, ap, ◌∙◌, inl, inr, ⊎_elim, arith}
-use mathlib.Core.Bool.{false≢true}
-use Rattle.std.proofs.lemmas.List.{get_or-map, length-map, length-replicate}
-use Rattle.std.proofs.lemmas.Bool.{and_from, cases_lt, or_cases, or_left, or_right, both_ways}
+use Rattle.std.proofs.Common.{◌≡◌, ℕ, zero, suc, ◌+◌, ◌<◌, ◌≤◌, Bool, true, false, not, if◌then◌else◌, ◌&&◌, ◌||◌, ◌⊎◌, ◌↔◌, List, [], ◌∷◌, length, get_or, replicate, is_some, Some, refl, inl, inr, ⊎_elim, arith}
+use Rattle.std.proofs.lemmas.List.{get_or-map, get_or_past, length-map, length-replicate}
+use Rattle.std.proofs.lemmas.Bool.{and_parts, cases_eq, or_cases, both_ways, false_from_ne_true}
 use Rattle.model.specs.Contact.{Reached, Connected, hears, spread, rounds, reached_marks, is_connected, first_unmarked, lost, ContactIsComputed}
 use Rattle.model.specs.Contact.Reached.{straight, relayed}
 use Rattle.model.specs.Site.{Site}
-use Rattle.model.proofs.Tables.{same_everywhere}
+use Rattle.model.proofs.Tables.{from_first, same_everywhere}
 
 -- The carrier at index i is marked.
 abbrev pub Marked : List Bool → ℕ → Type 0
 Marked marks i = get_or marks i false ≡ true
 
 marked_in : (marks : List Bool) (i : ℕ) → Marked marks i → i < length marks
-marked_in [] i h = absurd (false≢true h)
-marked_in (m ∷ marks) zero h = omega arith
-marked_in (m ∷ marks) (suc i) h = let l = marked_in marks i h in omega arith
+marked_in marks i h = grind (arith, get_or_past)
 
 -- Of two lists of marks of which the second has all the marks of the first: they are the same, or the second has more.
 
 -- how many are marked
 abbrev count : List Bool → ℕ
 count [] = 0
-count (true ∷ marks) = suc (count marks)
-count (false ∷ marks) = count marks
+count (m ∷ marks) = if m then suc (count marks) else count marks
 
 count_le_length : (marks : List Bool) → count marks ≤ length marks
 count_le_length [] = omega arith
-count_le_length (true ∷ marks) = omega (arith, count_le_length marks)
-count_le_length (false ∷ marks) = omega (arith, count_le_length marks)
+count_le_length (m ∷ marks) = grind (arith, count_le_length marks)
 
 -- All marks of the first are marks of the second.
 abbrev AllOf : List Bool → List Bool → Type 0
@@ -36,12 +31,9 @@ AllOf marks more = (i : ℕ) → Marked marks i → Marked more i
 
 more_or_same : (marks more : List Bool) → length marks ≡ length more → AllOf marks more → (marks ≡ more) ⊎ (count marks < count more)
 more_or_same [] [] e h = inl refl
-more_or_same [] (n ∷ more) e h = absurd (omega arith)
-more_or_same (m ∷ marks) [] e h = absurd (omega arith)
-more_or_same (true ∷ marks) (false ∷ more) e h = absurd (false≢true (h 0 refl))
-more_or_same (true ∷ marks) (true ∷ more) e h = ⊎_elim (λ same. inl (ap (λ l. true ∷ l) same)) (λ l. inr (omega arith)) (more_or_same marks more (omega arith) (λ i. h (suc i)))
-more_or_same (false ∷ marks) (true ∷ more) e h = inr (⊎_elim (λ same. omega (arith, ap count same)) (λ l. omega arith) (more_or_same marks more (omega arith) (λ i. h (suc i))))
-more_or_same (false ∷ marks) (false ∷ more) e h = ⊎_elim (λ same. inl (ap (λ l. false ∷ l) same)) (λ l. inr (omega arith)) (more_or_same marks more (omega arith) (λ i. h (suc i)))
+more_or_same [] (n ∷ more) e h = grind arith
+more_or_same (m ∷ marks) [] e h = grind arith
+more_or_same (m ∷ marks) (n ∷ more) e h = grind (arith, h 0, more_or_same marks more (omega arith) (λ i. h (suc i)))
 
 -- `hears` finds a marked carrier in contact.
 
@@ -49,23 +41,22 @@ more_or_same (false ∷ marks) (false ∷ more) e h = ⊎_elim (λ same. inl (ap
 abbrev Heard : Site → List ℕ → List Bool → ℕ → Type 0
 Heard s c marks p = (j : ℕ) × (j < length c) × Marked marks j × (s.in_contact (get_or c j 0) p ≡ true)
 
-heard_later : (s : Site) (q : ℕ) (c : List ℕ) (m : Bool) (marks : List Bool) (p : ℕ) → Heard s c marks p → Heard s (q ∷ c) (m ∷ marks) p
-heard_later s q c m marks p (j, l, h, t) = (suc j, omega arith, h, t)
-
 heard : (s : Site) (c : List ℕ) (marks : List Bool) (p : ℕ) → hears s c marks p ≡ true → Heard s c marks p
-heard s [] marks p h = absurd (false≢true h)
-heard s (q ∷ c) [] p h = absurd (false≢true h)
-heard s (q ∷ c) (true ∷ marks) p h = ⊎_elim (λ here. (0, omega arith, refl, here)) (λ later. heard_later s q c true marks p (heard s c marks p later)) (or_cases (s.in_contact q p) (hears s c marks p) h)
-heard s (q ∷ c) (false ∷ marks) p h = heard_later s q c false marks p (heard s c marks p h)
+heard s [] marks p h = cc
+heard s (q ∷ c) [] p h = cc
+heard s (q ∷ c) (m ∷ marks) p h = ⊎_elim
+    (λ here. let (marked, t) = and_parts m _ here in (0, omega arith, marked, t))
+    (λ later. let (j, l, marked, t) = heard s c marks p later in (suc j, omega arith, marked, t))
+    (or_cases (m && s.in_contact q p) _ h)
 
 hears_from : (s : Site) (c : List ℕ) (marks : List Bool) (p j : ℕ) → j < length c → Marked marks j → s.in_contact (get_or c j 0) p ≡ true → hears s c marks p ≡ true
-hears_from s [] marks p j l h t = absurd (omega arith)
-hears_from s (q ∷ c) [] p j l h t = absurd (false≢true h)
-hears_from s (q ∷ c) (m ∷ marks) p zero l h t = or_left _ _ (and_from _ _ h t)
-hears_from s (q ∷ c) (m ∷ marks) p (suc j) l h t = or_right _ _ (hears_from s c marks p j (omega arith) h t)
+hears_from s [] marks p j l h t = grind arith
+hears_from s (q ∷ c) [] p j l h t = grind arith
+hears_from s (q ∷ c) (m ∷ marks) p zero l h t = grind arith
+hears_from s (q ∷ c) (m ∷ marks) p (suc j) l h t = grind (arith, hears_from s c marks p j (omega arith) h t)
 
 pub no_mark : (n i : ℕ) → Marked (replicate n false) i → ⊥
-no_mark n i h = both_ways _ (same_everywhere n false i) h
+no_mark n i h = grind (arith, same_everywhere)
 
 module _ (s : Site) (c : List ℕ) where
   pub reached_in : {i : ℕ} → Reached s c i → i < length c
@@ -85,13 +76,13 @@ module _ (s : Site) (c : List ℕ) where
   spread_in marks i h = rw length-map at (marked_in (spread s c marks) i h)
 
   pub spread_cases : (marks : List Bool) (i : ℕ) → Marked (spread s c marks) i → (s.in_contact s.base (get_or c i 0) ≡ true) ⊎ Heard s c marks (get_or c i 0)
-  spread_cases marks i h = ⊎_elim inl (λ t. inr (heard s c marks _ t)) (or_cases _ _ (sym (spread_at marks i (spread_in marks i h)) ∙ h))
+  spread_cases marks i h = ⊎_elim inl (λ t. inr (heard s c marks _ t)) (or_cases _ _ (rw (← spread_at marks i (spread_in marks i h)) h))
 
   pub spread_straight : (marks : List Bool) (i : ℕ) → i < length c → s.in_contact s.base (get_or c i 0) ≡ true → Marked (spread s c marks) i
-  spread_straight marks i l t = spread_at marks i l ∙ or_left _ _ t
+  spread_straight marks i l t = grind (arith, spread_at)
 
   pub spread_relayed : (marks : List Bool) (i j : ℕ) → i < length c → j < length c → Marked marks j → s.in_contact (get_or c j 0) (get_or c i 0) ≡ true → Marked (spread s c marks) i
-  spread_relayed marks i j l k h t = spread_at marks i l ∙ or_right _ _ (hears_from s c marks _ j k h t)
+  spread_relayed marks i j l k h t = grind (arith, spread_at, hears_from s c marks (get_or c i 0) j k h t)
 
   spread_all_of : (marks more : List Bool) → AllOf marks more → AllOf (spread s c marks) (spread s c more)
   spread_all_of marks more a i h =
@@ -113,19 +104,19 @@ module _ (s : Site) (c : List ℕ) where
   rounds_all_of (suc k) i h = spread_all_of (rounds k s c) (rounds (suc k) s c) (rounds_all_of k) i h
 
   same_or_more : (k : ℕ) → (rounds k s c ≡ rounds (suc k) s c) ⊎ (count (rounds k s c) < count (rounds (suc k) s c))
-  same_or_more k = more_or_same _ _ (length_rounds k ∙ sym (length_rounds (suc k))) (rounds_all_of k)
+  same_or_more k = more_or_same _ _ (omega (arith, length_rounds)) (rounds_all_of k)
 
   rest_or_marks : (k : ℕ) → (rounds k s c ≡ rounds (suc k) s c) ⊎ (k < count (rounds (suc k) s c))
-  rest_or_marks zero = ⊎_elim inl (λ l. inr (omega arith)) (same_or_more zero)
-  rest_or_marks (suc k) = ⊎_elim (λ e. inl (ap (spread s c) e)) (λ l. ⊎_elim inl (λ m. inr (omega arith)) (same_or_more (suc k))) (rest_or_marks k)
+  rest_or_marks zero = grind (arith, same_or_more 0)
+  rest_or_marks (suc k) = grind (arith, same_or_more (suc k), rest_or_marks k)
 
   pub rounds_rest : reached_marks s c ≡ spread s c (reached_marks s c)
-  rounds_rest = ⊎_elim (λ e. e) (λ l. absurd (omega (arith, count_le_length (rounds (suc (length c)) s c), length_rounds (suc (length c))))) (rest_or_marks (length c))
+  rounds_rest = grind (arith, rest_or_marks (length c), count_le_length (rounds (suc (length c)) s c), length_rounds (suc (length c)))
 
   -- Once a round adds nothing, no later one does.
   pub rounds_stay : (k : ℕ) → rounds (suc k) s c ≡ rounds k s c → (n : ℕ) → k ≤ n → rounds n s c ≡ rounds k s c
-  rounds_stay k e zero l = let same : 0 ≡ k = omega arith in ap (λ m. rounds m s c) same
-  rounds_stay k e (suc n) l = ⊎_elim (λ below. ap (spread s c) (rounds_stay k e n (omega arith)) ∙ e) (λ above. let same : suc n ≡ k = omega arith in ap (λ m. rounds m s c) same) (cases_lt k (suc n))
+  rounds_stay k e zero l = let same : k ≡ 0 = omega arith in rw same
+  rounds_stay k e (suc n) l = ⊎_elim (λ same. rw same) (λ other. rw (rounds_stay k e n (omega arith)) e) (cases_eq k (suc n))
 
   -- So whoever is reached is marked.
 
@@ -142,33 +133,25 @@ record FirstUnmarked (marks : List Bool) (j : ℕ) : Type 0 where
   pub unmarked : get_or marks j false ≡ false
   pub before : (i : ℕ) → i < j → Marked marks i
 
-first_unmarked_later : (marks : List Bool) (j : ℕ) → FirstUnmarked marks j → FirstUnmarked (true ∷ marks) (suc j)
-first_unmarked_later marks j f = record { inside = omega arith; unmarked = f.unmarked; before = before }
-  where
-    before : (i : ℕ) → i < suc j → Marked (true ∷ marks) i
-    before zero l = refl
-    before (suc i) l = f.before i (omega arith)
-
 first_unmarked_is : (k : ℕ) (marks : List Bool) (n : ℕ) → first_unmarked k marks ≡ Some n → (j : ℕ) × (n ≡ k + j) × FirstUnmarked marks j
-first_unmarked_is k [] n e = absurd (let z : ◌≡◌ {A = ℕ} 0 1 = cc in omega arith)
+first_unmarked_is k [] n e = cc
 first_unmarked_is k (false ∷ marks) n e =
     let same : k ≡ n = cc in
     (0, omega arith, record { inside = omega arith; unmarked = refl; before = λ i l. absurd (omega arith) })
 first_unmarked_is k (true ∷ marks) n e =
     let (j, at, f) = first_unmarked_is (suc k) marks n e in
-    (suc j, omega arith, first_unmarked_later marks j f)
+    (suc j, omega arith, record { inside = omega (arith, f.inside); unmarked = f.unmarked; before = from_first (Marked (true ∷ marks)) refl f.before })
 
 -- No mark is missing.
 
 all_marked : (k : ℕ) (marks : List Bool) → not (is_some (first_unmarked k marks)) ≡ true → (i : ℕ) → i < length marks → Marked marks i
-all_marked k [] e i l = absurd (omega arith)
-all_marked k (false ∷ marks) e i l = absurd (false≢true e)
-all_marked k (true ∷ marks) e zero l = refl
-all_marked k (true ∷ marks) e (suc i) l = all_marked (suc k) marks e i (omega arith)
+all_marked k [] e i l = grind arith
+all_marked k (false ∷ marks) e i l = grind arith
+all_marked k (true ∷ marks) e i l = from_first (Marked (true ∷ marks)) refl (all_marked (suc k) marks e) i l
 
 none_unmarked : (k : ℕ) (marks : List Bool) → ((i : ℕ) → i < length marks → Marked marks i) → not (is_some (first_unmarked k marks)) ≡ true
 none_unmarked k [] h = refl
-none_unmarked k (false ∷ marks) h = absurd (false≢true (h 0 (omega arith)))
+none_unmarked k (false ∷ marks) h = grind (arith, h 0)
 none_unmarked k (true ∷ marks) h = none_unmarked (suc k) marks (λ i l. h (suc i) (omega arith))
 
 -- Contact, and the lost carrier.
@@ -181,11 +164,7 @@ module _ (s : Site) (c : List ℕ) where
   )
 
   pub out_of_contact : (Connected s c → ⊥) → is_connected s c ≡ false
-  out_of_contact out = by_test (is_connected s c) (λ e. out (connected_is_contact.0 e))
-    where
-      by_test : (b : Bool) → (b ≡ true → ⊥) → b ≡ false
-      by_test true never = absurd (never refl)
-      by_test false never = refl
+  out_of_contact out = false_from_ne_true _ (λ e. out (connected_is_contact.0 e))
 
   pub lost_is_lowest : (k : ℕ) → lost s c ≡ Some k → (i : ℕ) × (k ≡ suc i) × (i < length c) × (Reached s c i → ⊥) × ((j : ℕ) → j < i → Reached s c j)
   lost_is_lowest k e =

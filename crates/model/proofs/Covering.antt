@@ -1,6 +1,6 @@
 -- What holds of a running search: its open nodes have executions of their cost, stand in order, are counted,
 -- and cover every plan within the horizon.
-use Rattle.std.proofs.Common.{◌≡◌, suc, ◌+◌, ◌<◌, ◌≤◌, ◌⊎◌, List, [], ◌∷◌, ◌++◌, length, Some, sym, refl, ap, subst, inl, inr, ⊎_elim, arith}
+use Rattle.std.proofs.Common.{◌≡◌, suc, ◌+◌, ◌<◌, ◌≤◌, ◌⊎◌, List, [], ◌∷◌, ◌++◌, length, Some, refl, ap, inl, inr, ⊎_elim, arith}
 use mathlib.Core.List.Memᴰ
 use mathlib.Core.List.{Memᴰ}
 use Rattle.model.specs.declared.item.Condition.{Condition}
@@ -47,19 +47,9 @@ pub record Ready (p : Problem) (Left : Timely p → Type 0) (st : State) : Type 
   pub covers : (q : Timely p) → Covered p st q ⊎ Left q
 
 pub fewer_left : {p : Problem} {Left Fewer : Timely p → Type 0} {st : State} → Ready p Left st → ((q : Timely p) → Left q → Fewer q) → Ready p Fewer st
-fewer_left {p} {Left} {Fewer} {st} r f = record {
-  crew = r.crew;
-  family = r.family;
-  opened = r.opened;
-  ordered = r.ordered;
-  counted = r.counted;
-  few = r.few;
-  roomy = r.roomy;
-  short = r.short;
-  low = r.low;
-  bounds = r.bounds;
-  covers = λ q. ⊎_elim (λ (c : Covered p st q). inl c) (λ (l : Left q). inr (f q l)) (r.covers q);
-}
+fewer_left {p} {Left} {Fewer} {st} r f =
+    let covers : (q : Timely p) → Covered p st q ⊎ Fewer q = λ q. ⊎_elim inl (λ l. inr (f q l)) (r.covers q) in
+    assumption
 
 -- A new node that is put covers the plans that keep its conditions.
 pub record NewNode (p : Problem) (st : State) (n : Node) (cs : List Condition) (x : List TimedPath) : Type 0 where
@@ -87,7 +77,7 @@ module _ (p : Problem) (st : State) (n : Node) where
 
   stays_open : Family st.nodes → (a : Pair) → Opened p st a → Opened p (with_node n st) a
   stays_open fam a o = record {
-    inside = omega (arith, o.inside, longer);
+    inside = omega (arith, longer);
     paths = o.paths;
     runs = rw (conditions_stay st.nodes n fam a.1 o.inside) o.runs;
     cost = o.cost;
@@ -97,13 +87,13 @@ module _ (p : Problem) (st : State) (n : Node) where
   -- The pair of the new node is put.
   module _ (accepted : put st.room here st.pairs ≡ insert here st.pairs) where
     is_put : (a : Pair) → Memᴰ a (insert here st.pairs) → Memᴰ a (with_node n st).pairs
-    is_put a h = subst (Memᴰ a) (sym accepted) h
+    is_put a h = rw accepted h
 
     stays_covered : {q : Timely p} → Family st.nodes → ((a : Pair) → Memᴰ a st.pairs → Opened p st a) → Covered p st q → Covered p (with_node n st) q
     stays_covered {q} fam opened c = record {
       pair = c.pair;
       among = is_put c.pair (others_stay here c.pair st.pairs c.among);
-      kept = subst (Kept q) (sym (conditions_stay st.nodes n fam c.pair.1 (opened c.pair c.among).inside)) c.kept;
+      kept = rw (conditions_stay st.nodes n fam c.pair.1 (opened c.pair c.among).inside) c.kept;
     }
 
     pub put_covers : {Left Fewer : Timely p → Type 0} {cs : List Condition} {x : List TimedPath} → Ready p Left st → NewNode p st n cs x
@@ -111,24 +101,22 @@ module _ (p : Problem) (st : State) (n : Node) where
     put_covers {Left} {Fewer} {cs} {x} r new f = record {
       crew = r.crew;
       family = family_grows st.nodes n r.family new.hangs;
-      opened = λ a h. ⊎_elim (λ (e : a ≡ here). subst (Opened p (with_node n st)) (sym e) here_opened) (λ (t : Memᴰ a st.pairs). stays_open r.family a (r.opened a t))
-          (put_or_there here a st.pairs (subst (Memᴰ a) accepted h));
-      ordered = subst InOrder (sym accepted) (insert_in_order here st.pairs r.ordered);
-      counted = omega (arith, longer, ap length accepted, insert_length here st.pairs, r.counted);
+      opened = λ a h. ⊎_elim (λ e. rw e here_opened) (λ t. stays_open r.family a (r.opened a t)) (put_or_there here a st.pairs (rw accepted at h));
+      ordered = rw accepted (insert_in_order here st.pairs r.ordered);
+      counted = omega (arith, longer, ap length accepted, insert_length here st.pairs);
       few = omega (arith, longer, new.room);
       roomy = r.roomy;
       short = r.short;
       low = r.low;
       bounds = r.bounds;
-      covers = λ q. ⊎_elim (λ (c : Covered p st q). inl (stays_covered r.family r.opened c))
-          (λ (l : Left q). ⊎_elim (λ (k : Kept q cs). inl (here_covers q k)) (λ (m : Fewer q). inr m) (f q l)) (r.covers q);
+      covers = λ q. ⊎_elim (λ c. inl (stays_covered r.family r.opened c)) (λ l. ⊎_elim (λ k. inl (here_covers q k)) inr (f q l)) (r.covers q);
     }
       where
         here_opened : Opened p (with_node n st) here
         here_opened = record { inside = omega (arith, longer); paths = x; runs = rw new.conditions new.runs; cost = new.cost; above = new.above }
 
         here_covers : (q : Timely p) → Kept q cs → Covered p (with_node n st) q
-        here_covers q k = record { pair = here; among = is_put here (put_is_there here st.pairs); kept = subst (Kept q) (sym new.conditions) k }
+        here_covers q k = record { pair = here; among = is_put here (put_is_there here st.pairs); kept = rw new.conditions k }
 
 pub node_added : (p : Problem) → Lawful p.site → (st : State) (n : Node) {Left Fewer : Timely p → Type 0} {cs : List Condition} {x : List TimedPath} → Ready p Left st → NewNode p st n cs x
     → ((q : Timely p) → Left q → Kept q cs ⊎ Fewer q) → Ready p Fewer (with_node n st)
@@ -141,10 +129,10 @@ NoneLeft q = ⊥
 -- The first open pair is taken.
 module _ (p : Problem) (lawful : Lawful p.site) (st : State) (a : Pair) (ps : List Pair) (first : st.pairs ≡ a ∷ ps) (r : Ready p NoneLeft st) where
   in_order : InOrder (a ∷ ps)
-  in_order = subst InOrder first r.ordered
+  in_order = rw first at r.ordered
 
   pub opened_before : (b : Pair) → Memᴰ b (a ∷ ps) → Opened p st b
-  opened_before b h = r.opened b (subst (Memᴰ b) (sym first) h)
+  opened_before b h = r.opened b (rw first h)
 
   -- It costs no more than any plan within the horizon has steps.
   least : (q : Timely p) → a.0 ≤ q.steps
@@ -154,7 +142,7 @@ module _ (p : Problem) (lawful : Lawful p.site) (st : State) (a : Pair) (ps : Li
       covered c =
           let o = r.opened c.pair c.among in
           let cheap = kept_cost p lawful q (conditions_of st.nodes c.pair.1) c.kept o.paths (executes p (conditions_of st.nodes c.pair.1) o.paths o.runs) in
-          let behind = before_costs a c.pair (head_before a c.pair ps in_order (subst (Memᴰ c.pair) first c.among)) in
+          let behind = before_costs a c.pair (head_before a c.pair ps in_order (rw first at c.among)) in
           omega (arith, o.cost)
 
   -- The plans that only it covered are left.
@@ -178,6 +166,6 @@ module _ (p : Problem) (lawful : Lawful p.site) (st : State) (a : Pair) (ps : Li
 
       covered : (q : Timely p) → Covered p st q → Covered p (taken a ps st) q ⊎ Kept q (conditions_of st.nodes a.1)
       covered q c = ⊎_elim
-          (λ (e : c.pair ≡ a). inr (subst (λ (b : Pair). Kept q (conditions_of st.nodes b.1)) e c.kept))
-          (λ (t : Memᴰ c.pair ps). inl (record { pair = c.pair; among = t; kept = c.kept }))
-          (Memᴰ.cases_cons (subst (Memᴰ c.pair) first c.among))
+          (λ e. inr (rw e at c.kept))
+          (λ t. inl (record { pair = c.pair; among = t; kept = c.kept }))
+          (Memᴰ.cases_cons (rw first at c.among))

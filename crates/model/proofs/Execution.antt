@@ -1,8 +1,9 @@
 -- What an execution is: the chosen path of every carrier; what it makes when nothing breaks contact; and where contact breaks first.
-use Rattle.std.proofs.Common.{◌≡◌, ℕ, zero, suc, ◌+◌, ◌<◌, ◌≤◌, true, false, List, [], ◌∷◌, length, get_or, Some, None, Option, sym, refl, ap, ◌∙◌, subst, ⊎_elim, add-zero, zero-add, arith}
+use Rattle.std.proofs.Common.{◌≡◌, ℕ, zero, suc, ◌+◌, ◌<◌, ◌≤◌, true, false, ◌⊎◌, List, [], ◌∷◌, length, get_or, Some, None, Option, refl, ap, ◌∙◌, ⊎_elim, arith}
 use lib.ListN.{length-map, get_or-map}
 use Rattle.std.proofs.lemmas.List.{ext_get_or}
-use Rattle.std.proofs.lemmas.Bool.{cases_lt, cond_both, both_ways}
+use Rattle.std.proofs.lemmas.List.Recursion.{max_bounds, max_least}
+use Rattle.std.proofs.lemmas.Bool.{cases_lt, both_ways}
 use Rattle.model.specs.declared.item.Condition.{Condition}
 use Rattle.model.specs.Chosen.{chosen}
 use Rattle.model.specs.Contact.{is_connected}
@@ -13,31 +14,36 @@ use Rattle.model.specs.Site.{Site, Lawful}
 use Rattle.model.specs.State.{Problem}
 use Rattle.model.proofs.Chosen.{chosen_sound, nothing_chosen, chosen_no_sooner}
 use Rattle.model.proofs.Contact.{connected_is_contact}
+use Rattle.model.proofs.Tables.{from_first}
 
 -- how many carriers there are
 abbrev pub carriers : Problem → ℕ
 carriers p = length p.task.starts
 
 pub never_none : {A : Type 0} (x : A) → ◌≡◌ {A = Option A} None (Some x) → ⊥
-never_none x e = let z : ◌≡◌ {A = ℕ} 0 1 = cc in omega arith
+never_none x e = cc
 
 -- Every arrival is at most the latest, and the latest is the least such number.
 pub arrival_at_most : (x : List TimedPath) (i : ℕ) → i < length x → (get_or x i no_path).arrival ≤ latest x
-arrival_at_most [] i h = absurd (omega arith)
-arrival_at_most (t ∷ x) zero h = omega arith
-arrival_at_most (t ∷ x) (suc i) h = let ih = arrival_at_most x i (omega arith) in omega arith
+arrival_at_most x i h = max_bounds latest (λ t. t.arrival) refl (λ _ _. refl) x i no_path h
 
 pub latest_at_most : (x : List TimedPath) (b : ℕ) → ((i : ℕ) → i < length x → (get_or x i no_path).arrival ≤ b) → latest x ≤ b
-latest_at_most [] b h = omega arith
-latest_at_most (t ∷ x) b h =
-    let here : t.arrival ≤ b = h zero (omega arith) in
-    let ih : latest x ≤ b = latest_at_most x b (λ i l. h (suc i) (omega arith)) in
-    omega arith
+latest_at_most x b h = max_least latest (λ t. t.arrival) refl (λ _ _. refl) x no_path b h
 
 -- The execution has one chosen path for every carrier.
 pub record Executes (p : Problem) (cs : List Condition) (x : List TimedPath) : Type 0 where
   pub everyone : length x ≡ carriers p
   pub chosen_path : (i : ℕ) → i < carriers p → chosen p.site (errand p.task cs i) ≡ Some (get_or x i no_path)
+
+-- A path more and the others make an execution only if both are there.
+with_path_parts : (c : Option TimedPath) (r : Option (List TimedPath)) (x : List TimedPath) → with_path c r ≡ Some x
+    → (p : TimedPath) × (ps : List TimedPath) × (c ≡ Some p) × (r ≡ Some ps) × (x ≡ p ∷ ps)
+with_path_parts None r x e = cc
+with_path_parts (Some p) None x e = cc
+with_path_parts (Some p) (Some ps) x e = (p, ps, refl, refl, cc)
+
+with_path_lacks : (c : Option TimedPath) (r : Option (List TimedPath)) → with_path c r ≡ None → (c ≡ None) ⊎ (r ≡ None)
+with_path_lacks c r e = grind arith
 
 module _ (s : Site) (t : Task) (cs : List Condition) where
   -- the chosen paths of the k carriers from index i on
@@ -45,60 +51,42 @@ module _ (s : Site) (t : Task) (cs : List Condition) where
     pub so_many : length x ≡ k
     pub each : (j : ℕ) → j < k → chosen s (errand t cs (i + j)) ≡ Some (get_or x j no_path)
 
-  -- the same choice, for an equal index
-  moved : {i j : ℕ} (c : TimedPath) → i ≡ j → chosen s (errand t cs i) ≡ Some c → chosen s (errand t cs j) ≡ Some c
-  moved c e h = subst (λ n. chosen s (errand t cs n) ≡ Some c) e h
-
   choices_more : (i k : ℕ) (c : TimedPath) (x : List TimedPath) → chosen s (errand t cs i) ≡ Some c → Choices (suc i) k x → Choices i (suc k) (c ∷ x)
-  choices_more i k c x here rest = record { so_many = ap suc rest.so_many; each = each }
-    where
-      each : (j : ℕ) → j < suc k → chosen s (errand t cs (i + j)) ≡ Some (get_or (c ∷ x) j no_path)
-      each zero h = moved c (omega arith) here
-      each (suc j) h = moved (get_or x j no_path) (omega arith) (rest.each j (omega arith))
+  choices_more i k c x here rest = record {
+    so_many = ap suc rest.so_many;
+    each = from_first (λ j. chosen s (errand t cs (i + j)) ≡ Some (get_or (c ∷ x) j no_path)) (grind (arith, here)) (λ j l. grind (arith, rest.each j l));
+  }
 
   choices : (i k : ℕ) (x : List TimedPath) → chosen_paths s t cs i k ≡ Some x → Choices i k x
-  choices i zero x e = let none : [] ≡ x = cc in subst (Choices i zero) none (record { so_many = refl; each = λ j h. absurd (omega arith) })
-  choices i (suc k) x e = go (chosen s (errand t cs i)) (chosen_paths s t cs (suc i) k) refl (λ y. choices (suc i) k y) e
-    where
-      go : (c : Option TimedPath) (r : Option (List TimedPath)) → chosen s (errand t cs i) ≡ c → ((y : List TimedPath) → r ≡ Some y → Choices (suc i) k y)
-          → with_path c r ≡ Some x → Choices i (suc k) x
-      go None r here rest f = absurd (never_none x f)
-      go (Some c) None here rest f = absurd (never_none x f)
-      go (Some c) (Some y) here rest f = let all : c ∷ y ≡ x = cc in subst (Choices i (suc k)) all (choices_more i k c y here (rest y refl))
+  choices i zero x e = let none : x ≡ [] = cc in rw none (record { so_many = refl; each = λ j h. absurd (omega arith) })
+  choices i (suc k) x e =
+      let (c, y, here, rest, all) = with_path_parts (chosen s (errand t cs i)) (chosen_paths s t cs (suc i) k) x e in
+      rw all (choices_more i k c y here (choices (suc i) k y rest))
 
   -- If every carrier has a chosen path, there is an execution.
   all_chosen : (i k : ℕ) → ((j : ℕ) → j < k → (c : TimedPath) × (chosen s (errand t cs (i + j)) ≡ Some c)) → (x : List TimedPath) × (chosen_paths s t cs i k ≡ Some x)
   all_chosen i zero h = ([], refl)
   all_chosen i (suc k) h =
-      let here = h zero (omega arith) in
-      let rest = all_chosen (suc i) k (λ j l. let more = h (suc j) (omega arith) in (more.0, moved more.0 (omega arith) more.1)) in
-      (here.0 ∷ rest.0, both (chosen s (errand t cs i)) (chosen_paths s t cs (suc i) k) (moved here.0 (omega arith) here.1) rest.1)
-    where
-      both : {c : TimedPath} {x : List TimedPath} (a : Option TimedPath) (b : Option (List TimedPath)) → a ≡ Some c → b ≡ Some x → with_path a b ≡ Some (c ∷ x)
-      both a b e f = cc
+      let (c, here) = h zero (omega arith) in
+      let (x, rest) = all_chosen (suc i) k (λ j l. let (d, more) = h (suc j) (omega arith) in (d, grind (arith, more))) in
+      (c ∷ x, grind (arith, here, rest))
 
   -- If there is none, some carrier has no chosen path.
   some_lacks : (i k : ℕ) → chosen_paths s t cs i k ≡ None → (j : ℕ) × (j < k) × (chosen s (errand t cs (i + j)) ≡ None)
-  some_lacks i zero e = absurd (never_none [] (sym e))
-  some_lacks i (suc k) e = go (chosen s (errand t cs i)) (chosen_paths s t cs (suc i) k) refl (some_lacks (suc i) k) e
-    where
-      go : (c : Option TimedPath) (r : Option (List TimedPath)) → chosen s (errand t cs i) ≡ c → (r ≡ None → (j : ℕ) × (j < k) × (chosen s (errand t cs (suc i + j)) ≡ None))
-          → with_path c r ≡ None → (j : ℕ) × (j < suc k) × (chosen s (errand t cs (i + j)) ≡ None)
-      go None r here later f = (0, omega arith, subst (λ n. chosen s (errand t cs n) ≡ None) (sym (add-zero i)) here)
-      go (Some c) None here later f =
-          let (j, l, none) = later refl in
-          let same : suc i + j ≡ i + suc j = omega arith in
-          (suc j, omega arith, subst (λ n. chosen s (errand t cs n) ≡ None) same none)
-      go (Some c) (Some y) here later f = absurd (never_none (c ∷ y) (sym f))
+  some_lacks i zero e = cc
+  some_lacks i (suc k) e = ⊎_elim
+      (λ here. (0, omega arith, grind (arith, here)))
+      (λ later. let (j, l, none) = some_lacks (suc i) k later in (suc j, omega arith, grind (arith, none)))
+      (with_path_lacks (chosen s (errand t cs i)) (chosen_paths s t cs (suc i) k) e)
 
 pub executes : (p : Problem) (cs : List Condition) (x : List TimedPath) → execution p.site p.task cs ≡ Some x → Executes p cs x
-executes p cs x e = record { everyone = all.so_many; chosen_path = λ i h. moved p.site p.task cs (get_or x i no_path) (omega arith) (all.each i h) }
+executes p cs x e = record { everyone = all.so_many; chosen_path = λ i h. grind (arith, all.each i h) }
   where
     all : Choices p.site p.task cs 0 (carriers p) x
     all = choices p.site p.task cs 0 (carriers p) x e
 
 pub execution_exists : (p : Problem) (cs : List Condition) → ((i : ℕ) → i < carriers p → (c : TimedPath) × (chosen p.site (errand p.task cs i) ≡ Some c)) → (x : List TimedPath) × (execution p.site p.task cs ≡ Some x)
-execution_exists p cs h = all_chosen p.site p.task cs 0 (carriers p) (λ i l. let here = h i l in (here.0, moved p.site p.task cs here.0 (omega arith) here.1))
+execution_exists p cs h = all_chosen p.site p.task cs 0 (carriers p) (λ i l. let (c, here) = h i l in (c, grind (arith, here)))
 
 -- The place of the carrier at index i, and the configuration.
 abbrev pub stands : List TimedPath → ℕ → ℕ → ℕ
@@ -127,8 +115,7 @@ module _ (p : Problem) (lawful : Lawful p.site) where
       each i h =
           let inside : i < carriers p = omega (arith, ex.everyone) in
           let no_sooner = chosen_no_sooner p.site (errand p.task cs i) c (get_or x i no_path) (get_or y i no_path) lawful (ex.chosen_path i inside) (ey.chosen_path i inside) in
-          let high = arrival_at_most y i (omega (arith, ey.everyone)) in
-          omega arith
+          omega (arith, arrival_at_most y i)
 
   -- An execution that is in contact up to its cost is a plan of so many steps.
   pub unbroken_is_plan : (cs : List Condition) (x : List TimedPath) → length p.task.starts ≡ length p.task.goals → Executes p cs x
@@ -159,32 +146,17 @@ module _ (s : Site) (x : List TimedPath) where
   -- If there is no break, contact is kept throughout.
   pub unbroken : (m k : ℕ) → first_break s x m k ≡ None → (j : ℕ) → m ≤ j → j < m + k → is_connected s (at_moment x j) ≡ true
   unbroken m zero e j low high = absurd (omega arith)
-  unbroken m (suc k) e j low high =
-      cond_both (is_connected s (at_moment x m)) (first_break s x (suc m) k) (Some m) (λ r. r ≡ None → is_connected s (at_moment x j) ≡ true)
-      (λ kept rest. ⊎_elim (λ later. unbroken (suc m) k rest j later (omega arith)) (now kept) (cases_lt m j))
-      (λ _ some. absurd (never_none m (sym some))) e
-    where
-      now : is_connected s (at_moment x m) ≡ true → j ≤ m → is_connected s (at_moment x j) ≡ true
-      now kept l = let same : m ≡ j = omega arith in subst (λ i. is_connected s (at_moment x i) ≡ true) same kept
+  unbroken m (suc k) e j low high = grind (arith, unbroken (suc m) k)
 
   -- At a break contact is lost.
   pub broken : (m k b : ℕ) → first_break s x m k ≡ Some b → (b < m + k) × (is_connected s (at_moment x b) ≡ false)
-  broken m zero b e = absurd (never_none b e)
-  broken m (suc k) b e =
-      cond_both (is_connected s (at_moment x m)) (first_break s x (suc m) k) (Some m) (λ r. r ≡ Some b → (b < m + suc k) × (is_connected s (at_moment x b) ≡ false))
-      (λ _ rest. let later = broken (suc m) k b rest in (omega arith, later.1))
-      (λ lack some. here lack (cc)) e
-    where
-      here : is_connected s (at_moment x m) ≡ false → m ≡ b → (b < m + suc k) × (is_connected s (at_moment x b) ≡ false)
-      here lack same = (omega arith, subst (λ i. is_connected s (at_moment x i) ≡ false) same lack)
+  broken m zero b e = cc
+  broken m (suc k) b e = grind (arith, broken (suc m) k b)
 
   -- and before it, it is kept.
   before_break : (m k b : ℕ) → first_break s x m k ≡ Some b → (j : ℕ) → m ≤ j → j < b → is_connected s (at_moment x j) ≡ true
-  before_break m zero b e j low high = absurd (never_none b e)
-  before_break m (suc k) b e j low high =
-      cond_both (is_connected s (at_moment x m)) (first_break s x (suc m) k) (Some m) (λ r. r ≡ Some b → is_connected s (at_moment x j) ≡ true)
-      (λ kept later. ⊎_elim (λ above. before_break (suc m) k b later j above high) (λ same. subst (λ i. is_connected s (at_moment x i) ≡ true) (omega arith) kept) (cases_lt m j))
-      (λ _ some. let same : m ≡ b = cc in absurd (omega arith)) e
+  before_break m zero b e j low high = cc
+  before_break m (suc k) b e j low high = grind (arith, before_break (suc m) k b)
 
 pub latest_is_one : (x : List TimedPath) → 1 ≤ length x → (i : ℕ) × (i < length x) × ((get_or x i no_path).arrival ≡ latest x)
 latest_is_one [] h = absurd (omega arith)
@@ -198,10 +170,10 @@ pub executions_are_chosen : ExecutionsAreChosen
 executions_are_chosen = record {
   a_path_for_each = λ s t cs xs e. (choices s t cs 0 (length t.starts) xs e).so_many;
   each_is_chosen = λ s t cs xs lawful e i l.
-      chosen_sound s (errand t cs i) (get_or xs i no_path) lawful (moved s t cs (get_or xs i no_path) (zero-add i) ((choices s t cs 0 (length t.starts) xs e).each i l));
+      chosen_sound s (errand t cs i) (get_or xs i no_path) lawful (grind (arith, (choices s t cs 0 (length t.starts) xs e).each i l));
   none_lacks_a_path = λ s t cs lawful e.
       let (i, l, none) = some_lacks s t cs 0 (length t.starts) e in
-      (i, l, λ q path. nothing_chosen s (errand t cs i) q lawful (subst (λ n. chosen s (errand t cs n) ≡ None) (zero-add i) none) path);
+      (i, l, λ q path. nothing_chosen s (errand t cs i) q lawful (grind (arith, none)) path);
   no_arrival_later = arrival_at_most;
   one_arrives_then = latest_is_one;
   broken_first_there = λ s xs k m e.

@@ -1,5 +1,5 @@
 -- A plan within the horizon gives every carrier a path: after the plan's last step it waits at its goal.
-use Rattle.std.proofs.Common.{◌≡◌, ℕ, suc, ◌<◌, ◌≤◌, min, true, ◌⊎◌, List, map, length, get_or, Some, sym, ap, ◌∙◌, subst, inl, inr, arith}
+use Rattle.std.proofs.Common.{◌≡◌, ℕ, suc, ◌<◌, ◌≤◌, min, true, List, map, length, get_or, Some, sym, ap, ◌∙◌, subst, ⊎_elim, arith}
 use mathlib.Core.List.{Memᴰ}
 use native.Mathlib.Nat.{min-eq_left, min-eq_right, min-le_right}
 use Rattle.std.specs.List.{range_with_len}
@@ -60,21 +60,19 @@ module _ (p : Problem) (lawful : Lawful p.site) (q : Timely p) where
   waiting_connected m = q.is_plan.connected (min m q.steps) (min-le_right m q.steps)
 
   waiting_moves : (m i : ℕ) → i < carriers p → p.site.has_move (place q i m) (place q i (suc m)) ≡ true
-  waiting_moves m i h = go (cases_lt m q.steps)
-    where
-      go : (m < q.steps) ⊎ (q.steps ≤ m) → p.site.has_move (place q i m) (place q i (suc m)) ≡ true
-      go (inl l) = rw (before_end m (omega arith), before_end (suc m) l) (q.is_plan.moves m i l h)
-      go (inr l) =
-          let same : place q i m ≡ place q i (suc m) = ap (λ c. get_or c i 0) (after_end m l ∙ sym (after_end (suc m) (omega arith))) in
-          let stay = lawful.self_move (place q i m) (lawful.open_is_place (place q i m) (waiting_open m i h)) in
-          subst (λ v. p.site.has_move (place q i m) v ≡ true) same stay
+  waiting_moves m i h =
+      let stay = lawful.self_move (place q i m) (lawful.open_is_place (place q i m) (waiting_open m i h)) in
+      ⊎_elim
+      (λ before. rw (before_end m (omega arith), before_end (suc m) before) (q.is_plan.moves m i before h))
+      (λ after. rw (after_end m after, after_end (suc m) (omega arith)) (rw (after_end m after) at stay))
+      (cases_lt m q.steps)
 
   way_is_path : (cs : List Condition) → Kept q cs → (i : ℕ) → i < carriers p → IsPath p.site (errand p.task cs i) (way i)
   unfolding way
   way_is_path cs kept i h = record {
     long = length-map-range_with_len (place q i) 0 (suc p.task.horizon);
-    begins = way_at i 0 (omega arith) ∙ ap (λ c. get_or c i 0) (before_end 0 (omega arith) ∙ q.is_plan.begins);
-    ends = way_at i p.task.horizon (omega arith) ∙ ap (λ c. get_or c i 0) (after_end p.task.horizon q.in_time);
+    begins = rw (way_at i 0 (omega arith), before_end 0 (omega arith), q.is_plan.begins);
+    ends = rw (way_at i p.task.horizon (omega arith), after_end p.task.horizon q.in_time);
     moves = λ m l. rw (way_at i m (omega arith), way_at i (suc m) l) (waiting_moves m i h);
     through_open = λ m l. rw (way_at i m l) (waiting_open m i h);
     keeps = λ c there name l. subst (Meets c.item.demand c.item.place) (sym (way_at i c.moment l)) (kept c there i h name);
@@ -94,5 +92,5 @@ module _ (p : Problem) (lawful : Lawful p.site) (q : Timely p) where
           let path = way_is_path cs kept i inside in
           let arrival = arrival_exists p.site (errand p.task cs i) (way i) path in
           let low = (chosen_in p lawful cs x ex i inside).earliest (way i) arrival.0 path arrival.1 in
-          let soon : arrival.0 ≤ q.steps = arrival.1.not_sooner q.steps q.in_time (λ m l k. way_at i m k ∙ ap (λ c. get_or c i 0) (after_end m l)) in
+          let soon : arrival.0 ≤ q.steps = arrival.1.not_sooner q.steps q.in_time (λ m l k. rw (way_at i m k, after_end m l)) in
           omega arith
