@@ -5,7 +5,6 @@
 mod examples;
 mod walk;
 
-use site::Window;
 use walk::Walk;
 
 fn main(rt: HostRuntime) -> anyhow::Result<()> {
@@ -17,9 +16,7 @@ fn main(rt: HostRuntime) -> anyhow::Result<()> {
     let plan = &[[1, 4], [2, 4], [3, 5]];
     println!(rt; "{}", Walk { site, plan })?;
 
-    let mut site = Window::new(examples::hall()?);
-    examples::warm(&mut site)?;
-    let site = &site;
+    let site = &examples::warm_hall()?;
     println!(rt;
         "A hall of 3 rows and 6 columns, carrier 1 to the far end, carriers 2 and 3 as relays:"
     )?;

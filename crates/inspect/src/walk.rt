@@ -13,7 +13,8 @@ use std::fmt;
 pub struct Walk<'a, S: Site, const N: usize> {
     pub site: &'a S,
     pub plan: &'a [[usize; N]],
-    ghost sized: { N * 8 < 2 ^ 63 },
+    // A configuration fits in memory.
+    ghost in_memory: { N * 8 < 2 ^ 63 },
 }
 
 impl<S: Site, const N: usize> Walk<'_, S, N> {
@@ -63,18 +64,18 @@ struct Moment<'a, S: Site> {
 impl<S: Site> fmt::Display for Moment<'_, S> {
     /// Whether it is in contact, and where each carrier stands.
     fn fmt<W: fmt::Write>(&self, f: &mut fmt::Formatter<W>) -> fmt::Result {
-        let number = self.number;
+        write!(f, "  moment {}: ", self.number)?;
         match lost_carrier(self.site, self.configuration) {
-            None => write!(f, "  moment {number}: in contact")?,
-            Some(carrier) => write!(f, "  moment {number}: out of contact, carrier {carrier} is lost")?,
+            None => write!(f, "in contact")?,
+            Some(carrier) => write!(f, "out of contact, carrier {carrier} is lost")?,
         }
-        for (carrier, (from, place)) in (1..).zip(self.before.iter().zip(self.configuration)) {
+        for (carrier, (&from, &place)) in (1..).zip(self.before.iter().zip(self.configuration)) {
             let standing = Standing {
                 carrier,
-                place: *place,
+                place,
                 relay: relay_of(self.site, self.configuration, carrier),
-                is_open: self.site.is_open(*place),
-                no_move_from: Some(*from).filter(|from| !self.site.has_move(*from, *place)),
+                is_open: self.site.is_open(place),
+                no_move_from: (!self.site.has_move(from, place)).then_some(from),
             };
             write!(f, "\n    {standing}")?;
         }
