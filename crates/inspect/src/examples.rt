@@ -36,11 +36,7 @@ fn hall() -> Result<Hall, Refusal>
 }
 
 /// Stores one reading at all of these places.
-fn warm<S: Site>(
-    window: &mut Window<S>,
-    places: Range<usize>,
-    reading: i16,
-) -> Result<(), Refusal>
+fn warm<S: Site>(window: &mut Window<S>, places: Range<usize>, reading: i16) -> Result<(), Refusal>
     ensures { window.new.below ≡ window.old.below }
 {
     for place in places {

@@ -22,13 +22,11 @@ impl<S: Site, const N: usize> Walk<'_, S, N> {
     fn first_break(&self) -> Option<usize>
         ensures { FirstBreak (S.Site.meaning self.now.site.now) self.now.plan.now result }
     {
-        self.plan
-            .iter()
-            .position(|configuration: &[usize; N]| -> bool
+        self.plan.iter().position(
+            |configuration: &[usize; N]| -> bool
                 ensures { result ≡ not (is_connected (S.Site.meaning self.entry.now.site.now) configuration.now) }
-            {
-                !is_connected(self.site, configuration)
-            })
+            { !is_connected(self.site, configuration) },
+        )
     }
 }
 

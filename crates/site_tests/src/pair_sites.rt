@@ -7,10 +7,7 @@ use std::test::Fail;
 fn count<F: Fn(usize, usize) -> bool>(answer: F) -> usize
     requires { F.IsAlwaysCallable answer }
 {
-    (0..8)
-        .flat_map(|p| (0..8).map(move |q| (p, q)))
-        .filter(|(p, q)| answer(*p, *q))
-        .count()
+    (0..64).filter(|i| answer(i / 8, i % 8)).count()
 }
 
 #[test]
