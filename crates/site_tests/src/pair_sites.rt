@@ -3,7 +3,7 @@ use model::refusal::Refusal;
 use site::{PairSite, Site};
 use std::test::Fail;
 
-/// For how many pairs of places below 8, either way round and with itself, the answer is yes.
+/// For how many pairs of places below 8, either way round and with itself, the answer is yes. Pair i is that of i / 8 and i % 8.
 fn count<F: Fn(usize, usize) -> bool>(answer: F) -> usize
     requires { F.IsAlwaysCallable answer }
 {
@@ -43,12 +43,10 @@ fn most_places(rt: HostRuntime) -> Result<(), Fail> {
 
 #[test]
 fn out_of_range(rt: HostRuntime) {
-    assert_eq!(rt; PairSite::new(0, 0).err(), Some(Refusal::NumberOutOfRange));
-    assert_eq!(rt;
-        PairSite::new(257, 0).err(),
-        Some(Refusal::NumberOutOfRange)
-    );
-    assert_eq!(rt; PairSite::new(6, 6).err(), Some(Refusal::NumberOutOfRange));
+    let refused = Some(Refusal::NumberOutOfRange);
+    assert_eq!(rt; PairSite::new(0, 0).err(), refused);
+    assert_eq!(rt; PairSite::new(257, 0).err(), refused);
+    assert_eq!(rt; PairSite::new(6, 6).err(), refused);
 }
 
 #[test]
