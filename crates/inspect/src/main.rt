@@ -5,27 +5,25 @@
 mod examples;
 mod walk;
 
-use site::Window;
+use walk::Walk;
 
 fn main(rt: HostRuntime) -> anyhow::Result<()> {
-    let galleries = examples::galleries()?;
+    let site = &examples::galleries()?;
     println!(rt; "Six places in two galleries, each carrier by its shortest way:")?;
-    walk::print_walk(&rt, &galleries, &[[1, 4], [2, 5], [3, 5]])?;
+    let plan = &[[1, 4], [2, 5], [3, 5]];
+    println!(rt; "{}", Walk { site, plan })?;
     println!(rt; "The same round, with a wait of carrier 2:")?;
-    walk::print_walk(&rt, &galleries, &[[1, 4], [2, 4], [3, 5]])?;
+    let plan = &[[1, 4], [2, 4], [3, 5]];
+    println!(rt; "{}", Walk { site, plan })?;
 
-    let hall = examples::hall()?;
-    let mut window = Window::new(&hall);
-    examples::warm(&mut window)?;
+    let site = &examples::warm_hall()?;
     println!(rt;
         "A hall of 3 rows and 6 columns, carrier 1 to the far end, carriers 2 and 3 as relays:"
     )?;
-    walk::print_walk(
-        &rt,
-        &window,
-        &[[1, 6, 7], [2, 1, 2], [3, 2, 3], [4, 2, 4], [5, 2, 4]],
-    )?;
+    let plan = &[[1, 6, 7], [2, 1, 2], [3, 2, 3], [4, 2, 4], [5, 2, 4]];
+    println!(rt; "{}", Walk { site, plan })?;
     println!(rt; "The same, straight through a wall:")?;
-    walk::print_walk(&rt, &window, &[[7, 1, 2], [8, 2, 3], [10, 2, 4]])?;
+    let plan = &[[7, 1, 2], [8, 2, 3], [10, 2, 4]];
+    println!(rt; "{}", Walk { site, plan })?;
     Ok(())
 }

@@ -51,11 +51,9 @@ fn one_gap_cuts_off_the_rest(rt: HostRuntime) -> Result<(), Fail> {
 #[test]
 fn the_shorter_chain_and_the_lower_number(rt: HostRuntime) -> Result<(), Fail> {
     let mut site = PairSite::new(5, 0)?;
-    site.add_contact(0, 1)?;
-    site.add_contact(0, 2)?;
-    site.add_contact(1, 3)?;
-    site.add_contact(2, 4)?;
-    site.add_contact(3, 4)?;
+    for (p, q) in [(0, 1), (0, 2), (1, 3), (2, 4), (3, 4)] {
+        site.add_contact(p, q)?;
+    }
     assert_eq!(rt; relay_of(&site, &[3, 2, 1, 4], 4), Some(Relay::Carrier(2)));
     site.add_contact(1, 4)?;
     assert_eq!(rt; relay_of(&site, &[3, 2, 1, 4], 4), Some(Relay::Carrier(2)));

@@ -40,13 +40,7 @@ fn out_of_range(rt: HostRuntime) {
 #[test]
 fn moves_to_the_eight_around(rt: HostRuntime) -> Result<(), Fail> {
     let hall = Hall::new(3, 4, 0, 0)?;
-    let mut around = 0usize;
-    for q in 0..12 {
-        if hall.has_move(5, q) {
-            around = around.saturating_add(1);
-        }
-    }
-    assert_eq!(rt; around, 9);
+    assert_eq!(rt; (0..12).filter(|q| hall.has_move(5, *q)).count(), 9);
     assert!(rt; hall.has_move(5, 10));
     assert!(rt; !hall.has_move(5, 7));
     assert!(rt; !hall.has_move(0, 8));

@@ -12,15 +12,20 @@ fn is_open_at(reading: i16) -> Result<bool, Refusal> {
 
 #[test]
 fn readings_at_the_edges(rt: HostRuntime) {
-    assert_eq!(rt; is_open_at(49), Ok(false));
-    assert_eq!(rt; is_open_at(50), Ok(true));
-    assert_eq!(rt; is_open_at(300), Ok(true));
-    assert_eq!(rt; is_open_at(301), Ok(false));
-    assert_eq!(rt; is_open_at(-400), Ok(false));
-    assert_eq!(rt; is_open_at(600), Ok(false));
-    assert_eq!(rt; is_open_at(-50), Ok(false));
-    assert_eq!(rt; is_open_at(-401), Err(Refusal::NoSuchPlaceOrReading));
-    assert_eq!(rt; is_open_at(601), Err(Refusal::NoSuchPlaceOrReading));
+    let refused = Err(Refusal::NoSuchPlaceOrReading);
+    for (reading, answer) in [
+        (49, Ok(false)),
+        (50, Ok(true)),
+        (300, Ok(true)),
+        (301, Ok(false)),
+        (-400, Ok(false)),
+        (600, Ok(false)),
+        (-50, Ok(false)),
+        (-401, refused),
+        (601, refused),
+    ] {
+        assert_eq!(rt; is_open_at(reading), answer, "at {reading}");
+    }
 }
 
 #[test]
