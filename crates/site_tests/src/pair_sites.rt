@@ -3,11 +3,13 @@ use model::refusal::Refusal;
 use site::{PairSite, Site};
 use std::test::Fail;
 
-/// For how many pairs of places below 8, either way round and with itself, the answer is yes. Pair i is that of i / 8 and i % 8.
+/// For how many pairs of places below 8, either way round and with itself, the answer is yes.
 fn count<F: Fn(usize, usize) -> bool>(answer: F) -> usize
     requires { F.IsAlwaysCallable answer }
 {
-    (0..64).filter(|i| answer(i / 8, i % 8)).count()
+    (0..8)
+        .map(|p| (0..8).filter(|q| answer(p, *q)).count())
+        .fold(0, |yes: usize, more| yes.saturating_add(more))
 }
 
 #[test]
