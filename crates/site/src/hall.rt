@@ -1,5 +1,5 @@
 //! Halls: grids of cells with walls.
-ghost use Rattle.std.specs.Prelude.{◌≡◌, ◌*◌, ◌<◌, ◌≤◌, is_ok, if◌then◌else◌};
+ghost use Rattle.std.specs.Prelude.{◌≡◌, ◌*◌, ◌<◌, ◌≤◌, OnOk, OnErr};
 ghost use Rattle.model.specs.Hall.{beside, cells, columns_apart, rows_apart, wall_answer, with_wall, within};
 ghost use Rattle.model.specs.Limits.{most_columns, most_places, most_radius, most_rows};
 
@@ -49,7 +49,8 @@ impl Hall {
     /// Puts a wall at p. A number that is no place and a wall that is there already are refused, and nothing changes.
     pub fn add_wall(&mut self, p: usize) -> Result<(), Refusal>
         ensures answer { result ≡ wall_answer (grid self.old) p }
-        ensures after { grid self.new ≡ (if is_ok result then with_wall p (grid self.old) else grid self.old) }
+        ensures after { OnOk result (grid self.new ≡ with_wall p (grid self.old)) }
+        ensures unchanged { OnErr result (grid self.new ≡ grid self.old) }
     {
         if p >= self.cells() {
             return Err(Refusal::NumberOutOfRange);

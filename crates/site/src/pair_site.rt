@@ -1,5 +1,5 @@
 //! Pair sites: networks of galleries, pair by pair.
-ghost use Rattle.std.specs.Prelude.{◌≡◌, ◌<◌, ◌≤◌, is_ok, if◌then◌else◌};
+ghost use Rattle.std.specs.Prelude.{◌≡◌, ◌<◌, ◌≤◌, OnOk, OnErr};
 ghost use Rattle.model.specs.Limits.{most_places};
 ghost use Rattle.model.specs.PairSite.{joined, no_pairs, pair_answer, with_contact, with_move, with_pair};
 
@@ -38,7 +38,8 @@ impl PairTable {
     fn add(&mut self, places: usize, p: usize, q: usize) -> Result<(), Refusal>
         requires { places ≤ most_places }
         ensures answer { result ≡ pair_answer places (pairs_of self.old) p q }
-        ensures after { pairs_of self.new ≡ (if is_ok result then with_pair p q (pairs_of self.old) else pairs_of self.old) }
+        ensures after { OnOk result (pairs_of self.new ≡ with_pair p q (pairs_of self.old)) }
+        ensures unchanged { OnErr result (pairs_of self.new ≡ pairs_of self.old) }
     {
         if p >= places || q >= places {
             return Err(Refusal::NumberOutOfRange);
@@ -85,7 +86,8 @@ impl PairSite {
     /// Lists a move between p and q. A refusal changes nothing.
     pub fn add_move(&mut self, p: usize, q: usize) -> Result<(), Refusal>
         ensures answer { result ≡ pair_answer (network self.old).places (network self.old).moves p q }
-        ensures after { network self.new ≡ (if is_ok result then with_move p q (network self.old) else network self.old) }
+        ensures after { OnOk result (network self.new ≡ with_move p q (network self.old)) }
+        ensures unchanged { OnErr result (network self.new ≡ network self.old) }
     {
         self.moves.add(self.places, p, q)
     }
@@ -93,7 +95,8 @@ impl PairSite {
     /// Lists a contact between p and q. A refusal changes nothing.
     pub fn add_contact(&mut self, p: usize, q: usize) -> Result<(), Refusal>
         ensures answer { result ≡ pair_answer (network self.old).places (network self.old).contacts p q }
-        ensures after { network self.new ≡ (if is_ok result then with_contact p q (network self.old) else network self.old) }
+        ensures after { OnOk result (network self.new ≡ with_contact p q (network self.old)) }
+        ensures unchanged { OnErr result (network self.new ≡ network self.old) }
     {
         self.contacts.add(self.places, p, q)
     }

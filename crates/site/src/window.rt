@@ -1,5 +1,5 @@
 //! Windows: temperature readings over a site.
-ghost use Rattle.std.specs.Prelude.{◌≡◌, is_ok, if◌then◌else◌};
+ghost use Rattle.std.specs.Prelude.{◌≡◌, OnOk, OnErr};
 ghost use Rattle.model.specs.Window.{no_readings, set_answer, with_reading};
 
 use crate::Site;
@@ -33,7 +33,8 @@ impl<S: Site> Window<S> {
     pub fn set(&mut self, place: usize, reading: i16) -> Result<(), Refusal>
         ensures answer { result ≡ set_answer (S.Site.meaning (below_of self.old)) place reading }
         ensures below { below_of self.new ≡ below_of self.old }
-        ensures readings { readings_of self.new ≡ (if is_ok result then with_reading place reading (readings_of self.old) else readings_of self.old) }
+        ensures readings { OnOk result (readings_of self.new ≡ with_reading place reading (readings_of self.old)) }
+        ensures unchanged { OnErr result (readings_of self.new ≡ readings_of self.old) }
     {
         if place >= self.below.places() || !(LOWEST_READING..=HIGHEST_READING).contains(&reading) {
             return Err(Refusal::NoSuchPlaceOrReading);
