@@ -17,7 +17,7 @@ abbrev pub hall_meaning : Hall → Site
 hall_meaning h = hall_site (grid h)
 
 -- A grid of at most 16 rows and columns has at most 256 places.
-pub few_cells : (h : Hall) → h.rows * h.columns ≤ most_places
+few_cells : (h : Hall) → h.rows * h.columns ≤ most_places
 few_cells h = mul-le h.rows h.columns most_rows most_columns h.long h.wide
 
 pub hall_lawful : (h : Hall) → Lawful (hall_meaning h)

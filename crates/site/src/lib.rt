@@ -39,6 +39,7 @@ pub trait Site {
     fn in_contact(&self, p: usize, q: usize) -> bool
         ensures { result ≡ (meaning self.now).in_contact p q };
 
+    // The law of every kind of site: what a site means is lawful.
     ghost lawful: { (s : Self) → Lawful (meaning s) };
 }
 

@@ -5,5 +5,4 @@ use Rattle.site.proofs.pair_site.PairTable.add.Goals as goal
 
 pub returns-clause-after : goal.returns-clause-after
 returns-clause-after c =
-    let rows = c.args.self.now.marks in
-    fun_ext (λ a. fun_ext (one_more rows _ _ _ _ c.min.ensures c.max.ensures (omega arith) (omega arith) a))
+    fun_ext (λ a. fun_ext (one_more c.args.self.now _ _ _ _ c.min.ensures c.max.ensures (omega arith) (omega arith) a))
