@@ -27,7 +27,7 @@ impl Hall {
     ghost use Rattle.site.specs.Halls.{Made, grid};
 
     /// A hall without walls: 1 to 16 rows and columns, a radius up to 30, and a base inside. Other numbers are refused.
-    pub fn new(rows: usize, columns: usize, radius: usize, base: usize) -> Result<Hall, Refusal>
+    pub fn new(rows: usize, columns: usize, radius: usize, base: usize) -> Result<Self, Refusal>
         ensures { Made rows columns radius base result }
     {
         if !(1..=MOST_ROWS).contains(&rows)

@@ -17,7 +17,7 @@ impl PairTable {
     ghost use Rattle.site.specs.PairSites.{pairs_of};
 
     /// No pair yet.
-    fn new() -> PairTable
+    fn new() -> Self
         ensures { pairs_of result ≡ no_pairs }
     {
         PairTable {
@@ -69,7 +69,7 @@ impl PairSite {
     ghost use Rattle.site.specs.PairSites.{Made, network};
 
     /// A site of so many places, 1 to 256, with this base and no listed pairs. Other numbers are refused.
-    pub fn new(places: usize, base: usize) -> Result<PairSite, Refusal>
+    pub fn new(places: usize, base: usize) -> Result<Self, Refusal>
         ensures { Made places base result }
     {
         if places > MOST_PLACES || base >= places {
