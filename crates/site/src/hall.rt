@@ -1,7 +1,7 @@
 //! Halls: grids of cells with walls.
 ghost use Rattle.std.specs.Prelude.{◌≡◌, ◌*◌, ◌<◌, ◌≤◌, OnOk, OnErr};
 ghost use Rattle.model.specs.Hall.{beside, cells, columns_apart, rows_apart, wall_answer, with_wall, within};
-ghost use Rattle.model.specs.Limits.{most_columns, most_places, most_radius, most_rows};
+ghost use Rattle.model.specs.Limits.{most_places, most_radius};
 
 use crate::Site;
 use model::limits::{MOST_COLUMNS, MOST_PLACES, MOST_RADIUS, MOST_ROWS};
@@ -16,9 +16,7 @@ pub struct Hall {
     radius: usize,
     base: usize,
     walls: [bool; MOST_PLACES],
-    ghost long: { rows ≤ most_rows },
-    ghost wide: { columns ≤ most_columns },
-    ghost some: { 0 < columns },
+    ghost few: { rows * columns ≤ most_places },
     ghost near: { radius ≤ most_radius },
     ghost inside: { base < rows * columns },
 }
@@ -64,8 +62,7 @@ impl Hall {
 
     /// How many cells there are.
     fn cells(&self) -> usize
-        ensures product { result ≡ cells (grid self.now) }
-        ensures few { result ≤ most_places }
+        ensures { result ≡ cells (grid self.now) }
     {
         self.rows * self.columns
     }
