@@ -44,6 +44,7 @@ impl PairTable {
         if p >= places || q >= places {
             return Err(Refusal::NumberOutOfRange);
         }
+        // The row is borrowed by itself, so that its type tells the proof its length.
         let row = &mut self.marks[p.min(q)];
         let mark = &mut row[p.max(q)];
         if p == q || *mark {
