@@ -45,7 +45,7 @@ pub trait Site {
 
 /// A reference to a site is a site, so that one site can serve many readers.
 impl<T: Site> Site for &T {
-    ghost meaning = { λ r. T.Site.meaning r.now };
+    ghost meaning = { λ r. T.meaning r.now };
 
     fn places(&self) -> usize {
         (**self).places()
@@ -67,5 +67,5 @@ impl<T: Site> Site for &T {
         (**self).in_contact(p, q)
     }
 
-    ghost lawful = { λ r. T.Site.lawful r.now };
+    ghost lawful = { λ r. T.lawful r.now };
 }

@@ -31,7 +31,7 @@ impl<S: Site> Window<S> {
     /// Stores or replaces the reading at a place. A number that is no place, and a reading that is not from -400 to 600, are
     /// refused, and nothing changes.
     pub fn set(&mut self, place: usize, reading: i16) -> Result<(), Refusal>
-        ensures answer { result ≡ set_answer (S.Site.meaning (below_of self.old)) place reading }
+        ensures answer { result ≡ set_answer (S.meaning (below_of self.old)) place reading }
         ensures below { below_of self.new ≡ below_of self.old }
         ensures readings { OnOk result (readings_of self.new ≡ with_reading place reading (readings_of self.old)) }
         ensures unchanged { OnErr result (readings_of self.new ≡ readings_of self.old) }
@@ -47,7 +47,7 @@ impl<S: Site> Window<S> {
 impl<S: Site> Site for Window<S> {
     ghost use Rattle.site.specs.Windows.{window_lawful, window_meaning};
 
-    ghost meaning = { window_meaning S.Site.meaning };
+    ghost meaning = { window_meaning S.meaning };
 
     fn places(&self) -> usize {
         self.below.places()
@@ -72,5 +72,5 @@ impl<S: Site> Site for Window<S> {
         self.below.in_contact(p, q)
     }
 
-    ghost lawful = { window_lawful S.Site.meaning S.Site.lawful };
+    ghost lawful = { window_lawful S.meaning S.lawful };
 }
