@@ -1,2 +1,1 @@
 mod PairTables
-mod Readings

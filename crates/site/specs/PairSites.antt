@@ -1,30 +1,26 @@
 -- What a pair site means: the network that its tables list.
-use Rattle.std.specs.Prelude.{◌≡◌, ℕ, ◌+◌, ◌*◌, min, max, true, false, ◌&&◌, Ok, Err, Result, nat_lt, slice_index_or}
+use Rattle.std.specs.Prelude.{◌≡◌, ℕ, min, max, Bool, true, false, [], Ok, Err, Result, slice_index_or}
 use Rattle.std.proofs.Math.Nat.{min_comm, max_comm}
+use Rattle.std.proofs.Math.Path.{ap₂}
 use Rattle.model.specs.declared.refusal.Refusal.{Refusal}
 use Rattle.model.specs.declared.refusal.Refusal.TheVariants.{NumberOutOfRange}
-use Rattle.model.specs.Limits.{most_places}
 use Rattle.model.specs.Site.{Site, Lawful}
 use Rattle.model.specs.PairSite.{Pairs, BothWays, Network, bare_network, network_fits, pair_site}
 use Rattle.model.proofs.PairSites.{pair_sites_are_sites}
 use Rattle.site.specs.declared.pair_site.PairTable.{PairTable}
 use Rattle.site.specs.declared.pair_site.PairSite.{PairSite}
 
--- How many spots a table has.
-abbrev pub spots : ℕ
-spots = most_places * most_places
+-- The mark in a row and a column of a table.
+abbrev pub mark_at : PairTable → ℕ → ℕ → Bool
+mark_at t row column = slice_index_or (slice_index_or t.marks row []) column false
 
--- The spot of a pair: the row of the lower place, the column of the higher one.
-abbrev pub spot_of : ℕ → ℕ → ℕ
-spot_of p q = min p q * most_places + max p q
-
--- The pairs that a table lists.
+-- The pairs that a table lists: those marked in the row of the lower place and the column of the higher one.
 abbrev pub pairs_of : PairTable → Pairs
-pairs_of t p q = nat_lt (max p q) most_places && slice_index_or t.marks (spot_of p q) false
+pairs_of t p q = mark_at t (min p q) (max p q)
 
 -- They hold both ways round.
 pub pairs_both_ways : (t : PairTable) → BothWays (pairs_of t)
-pairs_both_ways t p q = λ i. nat_lt (max_comm p q i) most_places && slice_index_or t.marks (min_comm p q i * most_places + max_comm p q i) false
+pairs_both_ways t p q = ap₂ (mark_at t) (min_comm p q) (max_comm p q)
 
 -- The network of a pair site, and the site that it means.
 abbrev pub network : PairSite → Network

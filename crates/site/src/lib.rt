@@ -19,8 +19,6 @@ pub use window::Window;
 pub trait Site {
     ghost meaning: { Self → Meaning };
 
-    ghost lawful: { (s : Self) → Lawful (meaning s) };
-
     /// How many places there are, numbered from 0.
     fn places(&self) -> usize
         ensures { result ≡ (meaning self.now).places };
@@ -40,13 +38,14 @@ pub trait Site {
     /// Do carriers at p and q hear each other?
     fn in_contact(&self, p: usize, q: usize) -> bool
         ensures { result ≡ (meaning self.now).in_contact p q };
+
+    // The law of every kind of site: what a site means is lawful.
+    ghost lawful: { (s : Self) → Lawful (meaning s) };
 }
 
 /// A reference to a site is a site, so that one site can serve many readers.
 impl<T: Site> Site for &T {
-    ghost meaning = { λ r. T.Site.meaning r.now };
-
-    ghost lawful = { λ r. T.Site.lawful r.now };
+    ghost meaning = { λ r. T.meaning r.now };
 
     fn places(&self) -> usize {
         (**self).places()
@@ -67,4 +66,6 @@ impl<T: Site> Site for &T {
     fn in_contact(&self, p: usize, q: usize) -> bool {
         (**self).in_contact(p, q)
     }
+
+    ghost lawful = { λ r. T.lawful r.now };
 }

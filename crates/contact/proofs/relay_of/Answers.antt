@@ -26,7 +26,7 @@ returns-in-Some g c =
     let before = c.loop-round.marks in
     let after = c.spread-more.new.marks in
     let apart = not_straight s c.base.result (get_or configuration i 0) c.base.ensures c.if-in_contact.ensures in
-    let next = next_round s configuration (g.S.Site.lawful site) before after c.spread-more.result c.spread-more.ensures k c.loop-round.invariant.0 in
+    let next = next_round s configuration (g.met.S.Site.lawful site) before after c.spread-more.result c.spread-more.ensures k c.loop-round.invariant.0 in
     by_number s configuration c.args.carrier _ (omega arith)
     (relayed_by s configuration i (omega arith) apart before after k c.in-Some.k c.loop-round.invariant.0 c.loop-round.invariant.1 next c.in-Some.ensures)
 
@@ -36,7 +36,7 @@ loop-round-preserved g c =
     let s = g.S.Site.meaning site in
     let configuration = c.args.configuration.now in
     let after = c.spread-more.new.marks in (
-      round_more s configuration (g.S.Site.lawful site) c.loop-round.marks after c.spread-more.result c.spread-more.ensures c.loop-round._round c.loop-round.invariant.0,
+      round_more s configuration (g.met.S.Site.lawful site) c.loop-round.marks after c.spread-more.result c.spread-more.ensures c.loop-round._round c.loop-round.invariant.0,
       not_heard s after configuration (get_or configuration (c.args.carrier - 1) 0) c.in_default.ensures,
       c.spread-more.array_long,
     )
