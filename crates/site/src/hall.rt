@@ -1,7 +1,7 @@
 //! Halls: grids of cells with walls.
 ghost use Rattle.std.specs.Prelude.{◌≡◌, ◌*◌, ◌<◌, ◌≤◌, OnOk, OnErr};
 ghost use Rattle.model.specs.Hall.{beside, cells, columns_apart, rows_apart, wall_answer, with_wall, within};
-ghost use Rattle.model.specs.Limits.{most_places, most_radius};
+ghost use Rattle.model.specs.Limits.{most_places, most_rows, most_columns, most_radius};
 
 use crate::Site;
 use model::limits::{MOST_COLUMNS, MOST_PLACES, MOST_RADIUS, MOST_ROWS};
@@ -16,7 +16,9 @@ pub struct Hall {
     radius: usize,
     base: usize,
     walls: [bool; MOST_PLACES],
-    ghost few: { rows * columns ≤ most_places },
+    ghost long: { rows ≤ most_rows },
+    ghost wide: { columns ≤ most_columns },
+    ghost some: { 0 < columns },
     ghost near: { radius ≤ most_radius },
     ghost inside: { base < rows * columns },
 }
@@ -62,7 +64,8 @@ impl Hall {
 
     /// How many cells there are.
     fn cells(&self) -> usize
-        ensures { result ≡ cells (grid self.now) }
+        ensures product { result ≡ cells (grid self.now) }
+        ensures few { result ≤ most_places }
     {
         self.rows * self.columns
     }

@@ -25,12 +25,21 @@ impl PairTable {
         }
     }
 
+    /// Is the pair listed?
+    fn has(&self, p: usize, q: usize) -> bool
+        ensures { result ≡ pairs_of self.now p q }
+    {
+        self.marks
+            .get(p.min(q))
+            .and_then(|row| row.get(p.max(q)))
+            .is_some_and(|mark| *mark)
+    }
+
     /// Is p joined with q, in a site of so many places: are they the same place, or a listed pair?
     fn joins(&self, places: usize, p: usize, q: usize) -> bool
-        requires { places ≤ most_places }
         ensures { result ≡ joined places (pairs_of self.now) p q }
     {
-        p < places && q < places && (p == q || self.marks[p.min(q)][p.max(q)])
+        p < places && q < places && (p == q || self.has(p, q))
     }
 
     /// Lists the pair of p and q, in a site of so many places. A number that is no place, a place paired with itself and a pair
