@@ -4,6 +4,7 @@ ghost use Rattle.inspect.specs.Examples.{walled_hall};
 ghost use Rattle.model.specs.Examples.{six_places};
 ghost use Rattle.site.specs.Halls.{grid};
 ghost use Rattle.site.specs.PairSites.{network};
+ghost use Rattle.site.specs.Windows.{below_of};
 
 use model::refusal::Refusal;
 use site::{Hall, PairSite, Site, Window};
@@ -37,7 +38,7 @@ fn hall() -> Result<Hall, Refusal>
 
 /// Stores one reading at all of these places.
 fn warm<S: Site>(window: &mut Window<S>, places: Range<usize>, reading: i16) -> Result<(), Refusal>
-    ensures { window.new.below ≡ window.old.below }
+    ensures { below_of window.new ≡ below_of window.old }
 {
     for place in places {
         window.set(place, reading)?;
@@ -47,7 +48,7 @@ fn warm<S: Site>(window: &mut Window<S>, places: Range<usize>, reading: i16) -> 
 
 /// The six places, with a reading of 12.0 degrees at every place of the galleries.
 pub fn galleries() -> Result<Window<PairSite>, Refusal>
-    ensures { IfOk result (λ w. network w.below ≡ six_places) }
+    ensures { IfOk result (λ w. network (below_of w) ≡ six_places) }
 {
     let mut window = Window::new(six_places()?);
     warm(&mut window, 1..6, 120)?;
@@ -56,7 +57,7 @@ pub fn galleries() -> Result<Window<PairSite>, Refusal>
 
 /// The hall, with a reading of 18.5 degrees at every place.
 pub fn warm_hall() -> Result<Window<Hall>, Refusal>
-    ensures { IfOk result (λ w. grid w.below ≡ walled_hall) }
+    ensures { IfOk result (λ w. grid (below_of w) ≡ walled_hall) }
 {
     let mut window = Window::new(hall()?);
     let places = 0..window.places();

@@ -13,7 +13,7 @@ use std::fmt;
 pub struct Walk<'a, S: Site, const N: usize> {
     pub site: &'a S,
     pub plan: &'a [[usize; N]],
-    // A configuration fits in memory.
+    // A configuration fits in memory, as all that is lent as a slice does. An array behind a field does not say it by its type.
     ghost in_memory: { N * 8 < 2 ^ 63 },
 }
 
