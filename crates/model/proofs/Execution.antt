@@ -1,7 +1,7 @@
 -- What an execution is: the chosen path of every carrier; what it makes when nothing breaks contact; and where contact breaks first.
 use Rattle.std.proofs.Common.{◌≡◌, ℕ, zero, suc, ◌+◌, ◌<◌, ◌≤◌, true, false, ◌⊎◌, List, [], ◌∷◌, length, get_or, Some, None, Option, refl, ap, ◌∙◌, ⊎_elim, arith}
-use lib.ListN.{length-map, get_or-map}
-use Rattle.std.proofs.lemmas.List.{ext_get_or}
+use Rattle.std.proofs.Math.ListN.{get_or-map}
+use Rattle.std.proofs.lemmas.List.{ext_get_or, length-map}
 use Rattle.std.proofs.lemmas.List.Recursion.{max_bounds, max_least}
 use Rattle.std.proofs.lemmas.Bool.{cases_lt, both_ways}
 use Rattle.model.specs.declared.item.Condition.{Condition}
