@@ -13,7 +13,7 @@ use Rattle.model.specs.Path.{TimedPath}
 use Rattle.model.specs.Site.{Lawful}
 use Rattle.model.specs.State.{Problem, State, with_node}
 use Rattle.model.specs.Turn.{taken}
-use Rattle.model.proofs.Execution.{executes, latest_in_time}
+use Rattle.model.proofs.Execution.{Executes, executes, latest_in_time}
 use Rattle.model.proofs.Nodes.{Family, HangsBefore, one_longer, conditions_stay, family_grows}
 use Rattle.model.proofs.OpenList.{before_costs, head_before, insert_length, insert_in_order, put_is_there, others_stay, put_or_there, put_inserts}
 use Rattle.model.proofs.Waiting.{Timely, Kept, kept_cost}
@@ -25,6 +25,10 @@ pub record Opened (p : Problem) (st : State) (a : Pair) : Type 0 where
   pub runs : execution p.site p.task (conditions_of st.nodes a.1) ≡ Some paths
   pub cost : latest paths ≡ a.0
   pub above : st.floor ≤ a.0
+
+-- Its paths are the execution of the node.
+executed : {p : Problem} {st : State} {a : Pair} (o : Opened p st a) → Executes p (conditions_of st.nodes a.1) o.paths
+executed {p} {st} {a} o = executes p (conditions_of st.nodes a.1) o.paths o.runs
 
 -- The plan keeps the conditions of an open node.
 pub record Covered (p : Problem) (st : State) (q : Timely p) : Type 0 where
@@ -86,13 +90,10 @@ module _ (p : Problem) (st : State) (n : Node) where
 
   -- The pair of the new node is put.
   module _ (accepted : put st.room here st.pairs ≡ insert here st.pairs) where
-    is_put : (a : Pair) → Memᴰ a (insert here st.pairs) → Memᴰ a (with_node n st).pairs
-    is_put a h = rw accepted h
-
     stays_covered : {q : Timely p} → Family st.nodes → ((a : Pair) → Memᴰ a st.pairs → Opened p st a) → Covered p st q → Covered p (with_node n st) q
     stays_covered {q} fam opened c = record {
       pair = c.pair;
-      among = is_put c.pair (others_stay here c.pair st.pairs c.among);
+      among = rw accepted (others_stay here c.pair st.pairs c.among);
       kept = rw (conditions_stay st.nodes n fam c.pair.1 (opened c.pair c.among).inside) c.kept;
     }
 
@@ -116,7 +117,7 @@ module _ (p : Problem) (st : State) (n : Node) where
         here_opened = record { inside = omega (arith, longer); paths = x; runs = rw new.conditions new.runs; cost = new.cost; above = new.above }
 
         here_covers : (q : Timely p) → Kept q cs → Covered p (with_node n st) q
-        here_covers q k = record { pair = here; among = is_put here (put_is_there here st.pairs); kept = rw new.conditions k }
+        here_covers q k = record { pair = here; among = rw accepted (put_is_there here st.pairs); kept = rw new.conditions k }
 
 pub node_added : (p : Problem) → Lawful p.site → (st : State) (n : Node) {Left Fewer : Timely p → Type 0} {cs : List Condition} {x : List TimedPath} → Ready p Left st → NewNode p st n cs x
     → ((q : Timely p) → Left q → Kept q cs ⊎ Fewer q) → Ready p Fewer (with_node n st)
@@ -141,7 +142,7 @@ module _ (p : Problem) (lawful : Lawful p.site) (st : State) (a : Pair) (ps : Li
       covered : Covered p st q → a.0 ≤ q.steps
       covered c =
           let o = r.opened c.pair c.among in
-          let cheap = kept_cost p lawful q (conditions_of st.nodes c.pair.1) c.kept o.paths (executes p (conditions_of st.nodes c.pair.1) o.paths o.runs) in
+          let cheap = kept_cost p lawful q (conditions_of st.nodes c.pair.1) c.kept o.paths (executed o) in
           let behind = before_costs a c.pair (head_before a c.pair ps in_order (rw first at c.among)) in
           omega (arith, o.cost)
 
@@ -156,7 +157,7 @@ module _ (p : Problem) (lawful : Lawful p.site) (st : State) (a : Pair) (ps : Li
     few = r.few;
     roomy = r.roomy;
     short = r.short;
-    low = omega (arith, taken_one.cost, latest_in_time p lawful (conditions_of st.nodes a.1) taken_one.paths (executes p (conditions_of st.nodes a.1) taken_one.paths taken_one.runs));
+    low = omega (arith, taken_one.cost, latest_in_time p lawful (conditions_of st.nodes a.1) taken_one.paths (executed taken_one));
     bounds = least;
     covers = λ q. ⊎_elim (covered q) absurd (r.covers q);
   }

@@ -1,7 +1,7 @@
 -- What an execution is: the chosen path of every carrier; what it makes when nothing breaks contact; and where contact breaks first.
 use Rattle.std.proofs.Common.{◌≡◌, ℕ, zero, suc, ◌+◌, ◌<◌, ◌≤◌, true, false, ◌⊎◌, List, [], ◌∷◌, length, get_or, Some, None, Option, refl, ap, ◌∙◌, ⊎_elim, arith}
-use lib.ListN.{length-map, get_or-map}
-use Rattle.std.proofs.lemmas.List.{ext_get_or}
+use Rattle.std.proofs.Math.ListN.{get_or-map}
+use Rattle.std.proofs.lemmas.List.{ext_get_or, length-map}
 use Rattle.std.proofs.lemmas.List.Recursion.{max_bounds, max_least}
 use Rattle.std.proofs.lemmas.Bool.{cases_lt, both_ways}
 use Rattle.model.specs.declared.item.Condition.{Condition}
@@ -19,9 +19,6 @@ use Rattle.model.proofs.Tables.{from_first}
 -- how many carriers there are
 abbrev pub carriers : Problem → ℕ
 carriers p = length p.task.starts
-
-pub never_none : {A : Type 0} (x : A) → ◌≡◌ {A = Option A} None (Some x) → ⊥
-never_none x e = cc
 
 -- Every arrival is at most the latest, and the latest is the least such number.
 pub arrival_at_most : (x : List TimedPath) (i : ℕ) → i < length x → (get_or x i no_path).arrival ≤ latest x

@@ -9,8 +9,7 @@ use Rattle.std.proofs.lemmas.Bool.Decides.{nat_tests, Decides-by_and, Decides-li
 use Rattle.model.specs.declared.item.Demand.{Demand}
 use Rattle.model.specs.declared.item.Demand.TheVariants.{MustBe, MustNotBe}
 use Rattle.model.specs.declared.item.Item.{Item}
-use Rattle.model.specs.Contact.{is_connected, lost, place_of}
-use Rattle.model.specs.Item.{Meets, must_be}
+use Rattle.model.specs.Contact.{is_connected, lost}
 use Rattle.model.specs.Rule.{Rule, InRange, RuleLaws}
 use Rattle.model.specs.Rules.{each_below, in_range, speaks, leaves, goes, hears_another, self, mends, yields, three_way, items_of, items_with, items, IsYield, HeardBy, IsSelf, IsOther, Speaks, RulesKeepTheLaws}
 use Rattle.model.specs.Site.{Site}
@@ -45,10 +44,6 @@ away c k = record { carrier = suc k; place = slice_index c k; demand = MustNotBe
 yields_away : (s : Site) (c : List ℕ) (k : ℕ) → is_connected s c ≡ false → ((j : ℕ) → j < length c → slice_index c j < s.places) → k < length c → yields s c (away c k) ≡ true
 yields_away s c k out places h = grind (arith, nat_tests, places k h, (each_below_decides s.places c).1 places)
 
--- Of the items `leaves` and `goes` a carrier meets none where it stands.
-unmet : (d : Demand) (v own : ℕ) → ((not (must_be d) && v == own) || (must_be d && not (v == own))) ≡ true → Meets d v own → ⊥
-unmet d v own e m = grind (arith, nat_tests)
-
 -- A rule keeps the laws if it lists Yield's items and, besides them, only that a carrier must be at another place than its own.
 rule_laws : (rule : Rule)
     → ((s : Site) (c : List ℕ) (i : Item) → yields s c i ≡ true → rule s c i ≡ true)
@@ -61,7 +56,7 @@ rule_laws rule enough no_more = record {
     | inl same ↦ absurd (out (rw same at there))
     | inr (k, h, moved) ↦ (away c k, enough s c (away c k) (yields_away s c k (out_of_contact s c out) places h), moved)
   ];
-  bite = λ s c i _ e m. unmet i.demand i.place (place_of c i.carrier) (grind (arith, no_more s c i e)) m;
+  bite = λ s c i _ e m. grind (arith, nat_tests, no_more s c i e);
 }
 
 -- What the rules list, in words.

@@ -19,7 +19,7 @@ use Rattle.model.specs.State.{Problem, State, is_full, with_outcome, with_node}
 use Rattle.model.specs.Turn.{add_child, split}
 use Rattle.model.proofs.Breaks.{MeetsOne, child_kept}
 use Rattle.model.proofs.Covering.{Ready, fewer_left, NewNode, node_added}
-use Rattle.model.proofs.Execution.{never_none, Executes, executes, cost_never_falls}
+use Rattle.model.proofs.Execution.{Executes, executes, cost_never_falls}
 use Rattle.model.proofs.Good.{Good, ready_below, still_running}
 use Rattle.model.proofs.Nodes.{one_longer, conditions_of_child, conditions_stay}
 use Rattle.model.proofs.Waiting.{Timely, Kept, kept_has_execution}
@@ -111,7 +111,7 @@ module _ (p : Problem) (i : ℕ) (cs : List Condition) (m : ℕ) (c : List ℕ) 
       where
         added : (r : Option (List TimedPath)) → execution p.site p.task (under it) ≡ r → ((u : State) → Splitting its u → Good p (split p i cs m c its u))
             → Good p (split p i cs m c its (add_child i (at_time m it) r st))
-        added None e rest = rest st (passed it its st (λ q kept _. let has = kept_has_execution p lawful q (under it) kept in never_none has.0 (sym e ∙ has.1)) s)
+        added None e rest = rest st (passed it its st (λ q kept _. let (x, has) = kept_has_execution p lawful q (under it) kept in cc (e, has)) s)
         added (Some y) e rest =
             cond_both (ltb (length st.nodes) most_nodes) (with_node (child_of it y) st) (with_outcome Full st) (λ u. Good p (split p i cs m c its u))
             (λ room. rest (with_node (child_of it y) st) (made it its st y e (ltb-true (length st.nodes) most_nodes room) s))

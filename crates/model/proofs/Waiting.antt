@@ -1,7 +1,6 @@
 -- A plan within the horizon gives every carrier a path: after the plan's last step it waits at its goal.
 use Rattle.std.proofs.Common.{◌≡◌, ℕ, suc, ◌<◌, ◌≤◌, min, true, List, map, length, get_or, Some, sym, ap, ◌∙◌, subst, ⊎_elim, arith}
 use mathlib.Core.List.{Memᴰ}
-use native.Mathlib.Nat.{min-eq_left, min-eq_right, min-le_right}
 use Rattle.std.specs.List.{range_with_len}
 use Rattle.std.proofs.lemmas.List.FromFn.{get_or-map-range_with_len, length-map-range_with_len}
 use Rattle.std.proofs.lemmas.Bool.{cases_lt}
@@ -45,19 +44,19 @@ module _ (p : Problem) (lawful : Lawful p.site) (q : Timely p) where
   way_at i m h = get_or-map-range_with_len (place q i) 0 (suc p.task.horizon) m m 0 (omega arith) (omega arith)
 
   before_end : (m : ℕ) → m ≤ q.steps → waiting q m ≡ q.plan m
-  before_end m h = ap q.plan (min-eq_left h)
+  before_end m h = ap q.plan (omega arith)
 
   after_end : (m : ℕ) → q.steps ≤ m → waiting q m ≡ p.task.goals
-  after_end m h = ap q.plan (min-eq_right h) ∙ q.is_plan.ends
+  after_end m h = ap q.plan (omega arith) ∙ q.is_plan.ends
 
   pub waiting_everyone : (m : ℕ) → length (waiting q m) ≡ carriers p
-  waiting_everyone m = q.is_plan.everyone (min m q.steps) (min-le_right m q.steps)
+  waiting_everyone m = q.is_plan.everyone (min m q.steps) (omega arith)
 
   pub waiting_open : (m i : ℕ) → i < carriers p → p.site.is_open (place q i m) ≡ true
-  waiting_open m i h = q.is_plan.through_open (min m q.steps) i (min-le_right m q.steps) h
+  waiting_open m i h = q.is_plan.through_open (min m q.steps) i (omega arith) h
 
   pub waiting_connected : (m : ℕ) → Connected p.site (waiting q m)
-  waiting_connected m = q.is_plan.connected (min m q.steps) (min-le_right m q.steps)
+  waiting_connected m = q.is_plan.connected (min m q.steps) (omega arith)
 
   waiting_moves : (m i : ℕ) → i < carriers p → p.site.has_move (place q i m) (place q i (suc m)) ≡ true
   waiting_moves m i h =
