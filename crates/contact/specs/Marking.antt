@@ -1,0 +1,42 @@
+-- Which places are marked, and how marks spread over a configuration.
+use Rattle.std.specs.Prelude.{◌≡◌, ℕ, suc, ◌≤◌, Bool, false, not, ◌&&◌, ◌||◌, List, map, length, Option, Some, None, nat_lt, slice_index_or}
+use Rattle.std.specs.List.{list_any}
+use Rattle.model.specs.Limits.{most_places}
+use Rattle.model.specs.Site.{Site}
+use Rattle.model.specs.Contact.{rounds}
+use Rattle.contact.specs.declared.marking.Marking.{Marking}
+
+-- The place p is marked.
+abbrev pub is_marked : {S : Type 0} → Marking S → ℕ → Bool
+is_marked m p = slice_index_or m.marks p false
+
+-- Which carriers stand at marked places.
+abbrev pub carriers_marked : {S : Type 0} → Marking S → List Bool
+carriers_marked m = map (is_marked m) m.configuration.now
+
+-- The place q is marked, and in contact with p.
+abbrev pub is_relay : {S : Type 0} → (S → Site) → Marking S → ℕ → ℕ → Bool
+is_relay meaning m p q = is_marked m q && (meaning m.site.now).in_contact q p
+
+-- The marked place of some carrier is in contact with p.
+abbrev pub is_heard : {S : Type 0} → (S → Site) → Marking S → ℕ → Bool
+is_heard meaning m p = list_any (is_relay meaning m p) m.configuration.now
+
+-- The place p is in contact with the base, or with the marked place of a carrier.
+abbrev pub is_near : {S : Type 0} → (S → Site) → Marking S → ℕ → Bool
+is_near meaning m p = (meaning m.site.now).in_contact (meaning m.site.now).base p || is_heard meaning m p
+
+-- The place p is to be marked.
+abbrev pub is_joining : {S : Type 0} → (S → Site) → Marking S → ℕ → Bool
+is_joining meaning m p = nat_lt p most_places && not (is_marked m p) && is_near meaning m p
+
+-- The marking after k rounds, at this site and over this configuration.
+pub record IsAfter {S : Type 0} (meaning : S → Site) (site : S) (configuration : List ℕ) (k : ℕ) (m : Marking S) : Type 0 where
+  pub site_is : m.site.now ≡ site
+  pub configuration_is : m.configuration.now ≡ configuration
+  pub marked : carriers_marked m ≡ rounds k (meaning site) configuration
+
+-- What one round more makes of a marking after some rounds: the next, or nothing where it is already the one after all rounds.
+abbrev pub Spreads : {S : Type 0} → (S → Site) → Marking S → Option (Marking S) → Type 0
+Spreads meaning m (Some next) = (site : _) (c : List ℕ) (k : ℕ) → IsAfter meaning site c k m → IsAfter meaning site c (suc k) next
+Spreads meaning m None = (site : _) (c : List ℕ) (k : ℕ) → k ≤ length c → IsAfter meaning site c k m → IsAfter meaning site c (length c) m

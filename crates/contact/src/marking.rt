@@ -1,0 +1,111 @@
+//! Which places are marked, and how marks spread over a configuration.
+
+ghost use Rattle.std.specs.Prelude.{◌≡◌, length, not, position};
+
+use model::limits::MOST_PLACES;
+use site::Site;
+
+/// A site, the places of carriers there, that of carrier 1 first, and which places are marked.
+#[derive(Drop)]
+pub(crate) struct Marking<'a, S> {
+    site: &'a S,
+    configuration: &'a [usize],
+    marks: [bool; MOST_PLACES],
+}
+
+impl<'a, S: Site> Marking<'a, S> {
+    ghost use Rattle.contact.specs.Marking.{IsAfter, Spreads, is_heard, is_joining, is_marked, is_near, is_relay};
+
+    /// Nothing is marked.
+    pub(crate) fn new(site: &'a S, configuration: &'a [usize]) -> Self
+        ensures { IsAfter S.Site.meaning site.now configuration.now 0 result }
+    {
+        Marking {
+            site,
+            configuration,
+            marks: [false; MOST_PLACES],
+        }
+    }
+
+    /// All rounds: the places of the carriers that are reached are marked.
+    pub(crate) fn reached(site: &'a S, configuration: &'a [usize]) -> Self
+        ensures { IsAfter S.Site.meaning site.now configuration.now (length configuration.now) result }
+    {
+        let mut marking = Self::new(site, configuration);
+        for _round in 0..configuration.len() {
+            let Some(next) = marking.spread() else {
+                return marking;
+            };
+            marking = next;
+        }
+        marking
+    }
+
+    /// Is p marked?
+    pub(crate) fn is_marked(&self, p: usize) -> bool
+        ensures { result ≡ is_marked self.now p }
+    {
+        self.marks.get(p) == Some(&true)
+    }
+
+    /// Is q marked, and in contact with p?
+    fn is_relay(&self, q: usize, p: usize) -> bool
+        ensures { result ≡ is_relay S.Site.meaning self.now p q }
+    {
+        self.is_marked(q) && self.site.in_contact(q, p)
+    }
+
+    /// Is the marked place of a carrier in contact with p?
+    fn is_heard(&self, p: usize) -> bool
+        ensures { result ≡ is_heard S.Site.meaning self.now p }
+    {
+        self.configuration.iter().any(|q| self.is_relay(*q, p))
+    }
+
+    /// Is the place p in contact with the base, or with the marked place of a carrier?
+    fn is_near(&self, p: usize) -> bool
+        ensures { result ≡ is_near S.Site.meaning self.now p }
+    {
+        self.site.in_contact(self.site.base(), p) || self.is_heard(p)
+    }
+
+    /// Is the place p to be marked: is it near, and not marked yet?
+    fn is_joining(&self, p: usize) -> bool
+        ensures { result ≡ is_joining S.Site.meaning self.now p }
+    {
+        p < MOST_PLACES && !self.is_marked(p) && self.is_near(p)
+    }
+
+    /// One round: the carriers' places that are near are marked too. None if there is nothing to mark.
+    pub(crate) fn spread(&self) -> Option<Self>
+        ensures { Spreads S.Site.meaning self.now result }
+    {
+        let mut marks = self.marks;
+        let mut more = false;
+        for p in self.configuration {
+            if self.is_joining(*p) {
+                marks[*p] = true;
+                more = true;
+            }
+        }
+        more.then_some(Marking {
+            site: self.site,
+            configuration: self.configuration,
+            marks,
+        })
+    }
+
+    /// The index of the first carrier whose place is not marked.
+    pub(crate) fn first_unmarked(&self) -> Option<usize>
+        ensures { result ≡ position (λ p. not (is_marked self.now p)) self.now.configuration.now }
+    {
+        self.configuration.iter().position(|p| !self.is_marked(*p))
+    }
+
+    /// The index of the first carrier whose place is marked and in contact with p.
+    pub(crate) fn first_heard(&self, p: usize) -> Option<usize>
+        ensures { result ≡ position (is_relay S.Site.meaning self.now p) self.now.configuration.now }
+    {
+        self.configuration.iter().position(|q| self.is_relay(*q, p))
+    }
+}
