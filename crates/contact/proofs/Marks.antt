@@ -86,3 +86,8 @@ module _ {S : Type 0} (meaning : S → Site) (m : Marking S) where
       let next = next_round lawful marks false n all pass k (after.marked ∙ sym (same_rounds site c k after k)) ∙ same_rounds site c k after (suc k) in
       let rests : rounds (suc k) (meaning site) c ≡ rounds k (meaning site) c = sym next ∙ ap (λ marks. map (λ p. get_or marks p false) m.configuration.now) (pass.still refl) ∙ after.marked in
       record { site_is = after.site_is; configuration_is = after.configuration_is; marked = after.marked ∙ sym (rounds_stay (meaning site) c k rests (length c) l) }
+
+module _ {S : Type 0} (meaning : S → Site) (site : S) (c : List ℕ) (k : ℕ) (m : Marking S) (after : IsAfter meaning site c k m) where
+  -- A carrier stands at a marked place if it is marked after that many rounds.
+  pub marked_is : (i : ℕ) → i < length c → is_marked m (get_or c i 0) ≡ get_or (rounds k (meaning site) c) i false
+  marked_is i l = let own : i < length m.configuration.now = omega (arith, ap length after.configuration_is) in cc (marked_at meaning m i own)

@@ -1,4 +1,66 @@
-//! Contact of a configuration.
+//! Contact of a configuration: a slice of places, that of carrier 1 first. Who is reached from the base, straight or through the
+//! others, who is lost, and through whom a carrier is reached. Nothing here allocates.
 #![tactic(auto)]
 
+ghost use Rattle.std.specs.Prelude.{◌≡◌};
+ghost use Rattle.model.specs.Contact.{is_connected, is_reached, lost};
+ghost use Rattle.model.specs.Relay.{RelayOf};
+ghost use Rattle.contact.specs.Carrier.{place_of};
+
+use marking::Marking;
+use model::relay::Relay;
+use site::Site;
+
 mod marking;
+
+/// The place of the carrier of this number, counted from 1, if there is one.
+fn place_of(configuration: &[usize], carrier: usize) -> Option<usize>
+    ensures { result ≡ place_of configuration.now carrier }
+{
+    configuration.get(carrier.checked_sub(1)?).copied()
+}
+
+/// Is the carrier of this number, counted from 1, reached from the base? A number that is no carrier's gets no.
+pub fn is_reached<S: Site>(site: &S, configuration: &[usize], carrier: usize) -> bool
+    ensures { result ≡ is_reached (S.Site.meaning site.now) configuration.now carrier }
+{
+    let Some(place) = place_of(configuration, carrier) else {
+        return false;
+    };
+    Marking::reached(site, configuration).is_marked(place)
+}
+
+/// The lost carrier: the lowest-numbered one that is not reached from the base, straight or through the others.
+pub fn lost_carrier<S: Site>(site: &S, configuration: &[usize]) -> Option<usize>
+    ensures { result ≡ lost (S.Site.meaning site.now) configuration.now }
+{
+    Marking::reached(site, configuration)
+        .first_unmarked()
+        .map(|i| i + 1)
+}
+
+/// Is the configuration in contact: is every carrier reached?
+pub fn is_connected<S: Site>(site: &S, configuration: &[usize]) -> bool
+    ensures { result ≡ is_connected (S.Site.meaning site.now) configuration.now }
+{
+    lost_carrier(site, configuration).is_none()
+}
+
+/// Whom the carrier of this number hears last on a shortest chain of contacts from the base; the lowest-numbered of several.
+/// Nobody where it is not reached, or where the number is no carrier's.
+pub fn relay_of<S: Site>(site: &S, configuration: &[usize], carrier: usize) -> Option<Relay>
+    ensures { RelayOf (S.Site.meaning site.now) configuration.now carrier result }
+{
+    let place = place_of(configuration, carrier)?;
+    if site.in_contact(site.base(), place) {
+        return Some(Relay::Base);
+    }
+    let mut marking = Marking::new(site, configuration);
+    for _round in 0..configuration.len() {
+        marking = marking.spread()?;
+        if let Some(i) = marking.first_heard(place) {
+            return Some(Relay::Carrier(i + 1));
+        }
+    }
+    None
+}
