@@ -1,9 +1,11 @@
 -- Marks on places, and how they spread.
-use Rattle.std.proofs.Common.{◌≡◌, ℕ, zero, suc, ◌+◌, ◌-◌, ◌<◌, ◌≤◌, Bool, true, false, not, ◌&&◌, ◌||◌, ltb, ◌⊎◌, List, [], ◌∷◌, map, length, get_or, replicate, Some, None, Option, sym, refl, ap, ◌∙◌, ⊎_elim, arith}
+use Rattle.std.proofs.Common.{◌≡◌, ℕ, zero, suc, ◌+◌, ◌-◌, ◌<◌, ◌≤◌, Bool, true, false, not, ◌&&◌, ◌||◌, ltb, ◌⊎◌, List, [], ◌∷◌, map, length, get_or, replicate, is_some, cond, Some, None, Option, subst, sym, refl, ap, ◌∙◌, ⊎_elim, arith}
 use Rattle.std.proofs.lemmas.List.{ext_get_or, get_or-map, get_or-replicate, length-map, length-replicate}
 use Rattle.std.proofs.lemmas.List.Folds.{Any-from_list_any}
 use Rattle.std.proofs.lemmas.Bool.{and_parts, lt-ltb, or_cases}
-use Rattle.std.specs.List.{list_any}
+use Rattle.std.proofs.lemmas.List.Quantifiers.{position-Some}
+use Rattle.std.proofs.lemmas.Iterator.Adapters.{position_from-zero}
+use Rattle.std.specs.List.{list_any, position, position_from}
 use Rattle.std.specs.Bool.{then_some}
 use Rattle.model.specs.Limits.{most_places}
 use Rattle.model.specs.Site.{Site, Lawful}
@@ -26,10 +28,22 @@ heard_is : (s : Site) (marked : ℕ → Bool) (c : List ℕ) (p : ℕ) → list_
 heard_is s marked [] p = refl
 heard_is s marked (q ∷ c) p = ap (λ b. (marked q && s.in_contact q p) || b) (heard_is s marked c p)
 
+-- An element passes a test if one is found that does.
+found_from : {X : Type 0} (test : X → Bool) (xs : List X) (k : ℕ) → is_some (position_from test k xs) ≡ list_any test xs
+found_from test [] k = refl
+found_from test (x ∷ xs) k = elim (test x) as (λ b. is_some (cond b (Some k) (position_from test (k + 1) xs)) ≡ (b || list_any test xs)) [ true ↦ refl | false ↦ found_from test xs (k + 1) ]
+
+any_found : {X : Type 0} (test : X → Bool) (xs : List X) → is_some (position test xs) ≡ list_any test xs
+any_found test xs = ap is_some (position_from-zero test xs) ∙ found_from test xs 0
+
 -- Before the first round nobody is marked.
 pub none_marked : (c : List ℕ) → map (λ p. get_or (replicate most_places false) p false) c ≡ replicate (length c) false
 none_marked [] = refl
 none_marked (q ∷ c) = cc (same_everywhere most_places false q, none_marked c)
+
+pub none_heard : (s : Site) (c : List ℕ) (p : ℕ) → hears s c (rounds 0 s c) p ≡ false
+none_heard s [] p = refl
+none_heard s (q ∷ c) p = none_heard s c p
 
 module _ {S : Type 0} (meaning : S → Site) (m : Marking S) where
   -- Who stands at a marked place.
@@ -91,3 +105,18 @@ module _ {S : Type 0} (meaning : S → Site) (site : S) (c : List ℕ) (k : ℕ)
   -- A carrier stands at a marked place if it is marked after that many rounds.
   pub marked_is : (i : ℕ) → i < length c → is_marked m (get_or c i 0) ≡ get_or (rounds k (meaning site) c) i false
   marked_is i l = let own : i < length m.configuration.now = omega (arith, ap length after.configuration_is) in cc (marked_at meaning m i own)
+
+  relay_at : (p i : ℕ) → i < length c → is_relay meaning m p (get_or c i 0) ≡ (get_or (rounds k (meaning site) c) i false && (meaning site).in_contact (get_or c i 0) p)
+  relay_at p i l = cc (marked_is i l)
+
+  -- The first carrier that is heard at p is the first of those that are marked after that many rounds.
+  pub first_relay : (p j : ℕ) → position (is_relay meaning m p) m.configuration.now ≡ Some j
+      → ((get_or (rounds k (meaning site) c) j false && (meaning site).in_contact (get_or c j 0) p) ≡ true)
+      × ((h : ℕ) → h < j → (get_or (rounds k (meaning site) c) h false && (meaning site).in_contact (get_or c h 0) p) ≡ false)
+  first_relay p j found =
+      let (l, here, lower) = position-Some (is_relay meaning m p) c j 0 (subst (λ d. position (is_relay meaning m p) d ≡ Some j) after.configuration_is found) in
+      (sym (relay_at p j l) ∙ here, λ h b. sym (relay_at p h (omega arith)) ∙ lower h b)
+
+  -- Where no carrier is heard at p, nobody is who is marked after that many rounds.
+  pub unheard : (p : ℕ) → position (is_relay meaning m p) m.configuration.now ≡ None → hears (meaning site) c (rounds k (meaning site) c) p ≡ false
+  unheard p none = cc (heard_is (meaning m.site.now) (is_marked m) m.configuration.now p, any_found (is_relay meaning m p) m.configuration.now)

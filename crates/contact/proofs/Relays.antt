@@ -1,0 +1,54 @@
+-- The last relay of a carrier.
+use Rattle.std.proofs.Common.{◌≡◌, ℕ, zero, suc, ◌+◌, ◌-◌, ◌<◌, ◌≤◌, Bool, true, false, ◌&&◌, ◌||◌, ◌⊎◌, List, length, get_or, replicate, Some, None, Option, sym, refl, ap, ◌∙◌, subst, ⊎_elim, arith}
+use Rattle.std.proofs.lemmas.Bool.{and_from, and_parts, cases_lt, or_from, both_ways}
+use Rattle.std.proofs.lemmas.Option.{slice_get_within, get_or_from_slice_get}
+use Rattle.model.specs.declared.relay.Relay.{Relay}
+use Rattle.model.specs.declared.relay.Relay.TheVariants.{Base, Carrier}
+use Rattle.model.specs.Site.{Site}
+use Rattle.model.specs.Contact.{Reached, hears, rounds}
+use Rattle.model.specs.Relay.{Chain, LastRelay, RelayedBy, RelayOf}
+use Rattle.model.proofs.Contact.{Marked, spread_at, rounds_rest, marked_iff_reached}
+use Rattle.model.proofs.Chains.{chain_in, chain_of_round, round_of_chain}
+use Rattle.contact.specs.Carrier.{place_of}
+
+module _ (s : Site) (c : List ℕ) (i p : ℕ) (inside : i < length c) (at : get_or c i 0 ≡ p) (apart : s.in_contact s.base p ≡ false) where
+  -- A carrier that hears neither the base nor whom round k marks is not marked in the next.
+  unmarked_next : (k : ℕ) → hears s c (rounds k s c) p ≡ false → Marked (rounds (suc k) s c) i → ⊥
+  unmarked_next k silent m = both_ways _ (or_from _ _ apart silent) (ap (λ q. s.in_contact s.base q || hears s c (rounds k s c) q) (sym at) ∙ sym (spread_at s c (rounds k s c) i inside) ∙ m)
+
+  -- The first that is heard in a round is the last relay, if nobody was heard in the round before.
+  last_relay : (k j : ℕ) → hears s c (rounds k s c) p ≡ false → (get_or (rounds (suc k) s c) j false && s.in_contact (get_or c j 0) p) ≡ true
+      → ((h : ℕ) → h < j → (get_or (rounds (suc k) s c) h false && s.in_contact (get_or c h 0) p) ≡ false) → LastRelay s c i j
+  last_relay k j silent here lower =
+      let (m, short, chain) = chain_of_round s c (suc k) j (and_parts _ _ here).0 in
+      record {
+        contacts = m;
+        chain = chain;
+        hears = rw at (and_parts _ _ here).1;
+        shortest = λ n other. omega (arith, longer n other);
+        lowest = λ h n l other t. omega (arith, longer_lower h n l other t);
+      }
+    where
+      longer : (n : ℕ) → Chain s c n i → suc k < n
+      longer n other = ⊎_elim (λ l. l) (λ l. absurd (unmarked_next k silent (round_of_chain s c other (suc k) l))) (cases_lt (suc k) n)
+
+      longer_lower : (h n : ℕ) → h < j → Chain s c n h → s.in_contact (get_or c h 0) (get_or c i 0) ≡ true → suc k < n
+      longer_lower h n l other t =
+          ⊎_elim (λ m. m) (λ m. absurd (both_ways _ (lower h l) (and_from _ _ (round_of_chain s c other (suc k) m) (rw (← at) t)))) (cases_lt (suc k) n)
+
+  -- Who hears nobody after all the rounds is not reached.
+  not_reached : hears s c (rounds (length c) s c) p ≡ false → Reached s c i → ⊥
+  not_reached silent r = unmarked_next (length c) silent (subst (λ all. Marked all i) (rounds_rest s c) ((marked_iff_reached s c i).1 r))
+
+-- By a carrier's number: what holds at the index of whoever stands there.
+by_number : (s : Site) (c : List ℕ) (n p : ℕ) (r : Option Relay) → place_of c n ≡ Some p → ((i : ℕ) → i < length c → get_or c i 0 ≡ p → RelayedBy s c i r) → RelayOf s c n r
+by_number s c zero p r some h = absurd (cc)
+by_number s c (suc i) p r some h = h i (slice_get_within c i p some) (get_or_from_slice_get c i p 0 some)
+
+module _ (s : Site) (c : List ℕ) (n p : ℕ) (some : place_of c n ≡ Some p) (apart : s.in_contact s.base p ≡ false) where
+  pub relayed_by : (k j : ℕ) → hears s c (rounds k s c) p ≡ false → (get_or (rounds (suc k) s c) j false && s.in_contact (get_or c j 0) p) ≡ true
+      → ((h : ℕ) → h < j → (get_or (rounds (suc k) s c) h false && s.in_contact (get_or c h 0) p) ≡ false) → RelayOf s c n (Some (Carrier (suc j)))
+  relayed_by k j silent here lower = by_number s c n p (Some (Carrier (suc j))) some (λ i inside at. (inside, last_relay s c i p inside at apart k j silent here lower))
+
+  pub not_relayed : hears s c (rounds (length c) s c) p ≡ false → RelayOf s c n None
+  not_relayed silent = by_number s c n p None some (λ i inside at. not_reached s c i p inside at apart silent)
