@@ -1,5 +1,5 @@
 -- Carriers by their number.
-use Rattle.std.proofs.Common.{◌≡◌, ℕ, zero, suc, ◌+◌, ◌<◌, ◌≤◌, Bool, true, false, not, cond, List, [], ◌∷◌, map, length, get_or, Some, None, Option, sym, refl, ap, ◌∙◌, add-one, arith}
+use Rattle.std.proofs.Common.{◌≡◌, ℕ, zero, suc, ◌+◌, ◌≤◌, Bool, true, false, not, cond, List, [], ◌∷◌, map, length, Some, None, sym, refl, ap, ◌∙◌, add-one, arith}
 use Rattle.std.proofs.lemmas.List.{get_or_past}
 use Rattle.std.proofs.lemmas.Iterator.Adapters.{position_from-zero}
 use Rattle.std.proofs.lemmas.Option.{slice_get_within, slice_get_cases, get_or_from_slice_get}
@@ -21,8 +21,8 @@ first_is : (marked : ℕ → Bool) (c : List ℕ) (k : ℕ) → option_map (λ i
 first_is marked [] k = refl
 first_is marked (q ∷ c) k =
     elim (marked q) as (λ b. option_map (λ i. i + 1) (cond (not b) (Some k) (position_from (λ p. not (marked p)) (k + 1) c)) ≡ first_unmarked (k + 1) (b ∷ map marked c)) [
-      true ↦ first_is marked c (k + 1) ∙ ap (λ n. first_unmarked n (map marked c)) (add-one (k + 1))
-    | false ↦ refl
+      | true ↦ first_is marked c (k + 1) ∙ ap (λ n. first_unmarked n (map marked c)) (add-one (k + 1))
+      | false ↦ refl
     ]
 
 module _ {S : Type 0} (meaning : S → Site) (site : S) (c : List ℕ) (m : Marking S) (after : IsAfter meaning site c (length c) m) where

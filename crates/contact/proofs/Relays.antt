@@ -1,14 +1,14 @@
 -- The last relay of a carrier.
-use Rattle.std.proofs.Common.{◌≡◌, ℕ, zero, suc, ◌+◌, ◌-◌, ◌<◌, ◌≤◌, Bool, true, false, ◌&&◌, ◌||◌, ◌⊎◌, List, length, get_or, replicate, Some, None, Option, sym, refl, ap, ◌∙◌, subst, ⊎_elim, arith}
+use Rattle.std.proofs.Common.{◌≡◌, ℕ, zero, suc, ◌<◌, true, false, ◌&&◌, ◌||◌, List, length, get_or, Some, None, Option, sym, ap, ◌∙◌, subst, ⊎_elim, arith}
 use Rattle.std.proofs.lemmas.Bool.{and_from, and_parts, cases_lt, or_from, both_ways}
 use Rattle.std.proofs.lemmas.Option.{slice_get_within, get_or_from_slice_get}
 use Rattle.model.specs.declared.relay.Relay.{Relay}
-use Rattle.model.specs.declared.relay.Relay.TheVariants.{Base, Carrier}
+use Rattle.model.specs.declared.relay.Relay.TheVariants.{Carrier}
 use Rattle.model.specs.Site.{Site}
 use Rattle.model.specs.Contact.{Reached, hears, rounds}
 use Rattle.model.specs.Relay.{Chain, LastRelay, RelayedBy, RelayOf}
 use Rattle.model.proofs.Contact.{Marked, spread_at, rounds_rest, marked_iff_reached}
-use Rattle.model.proofs.Chains.{chain_in, chain_of_round, round_of_chain}
+use Rattle.model.proofs.Chains.{chain_of_round, round_of_chain}
 use Rattle.contact.specs.Carrier.{place_of}
 
 module _ (s : Site) (c : List ℕ) (i p : ℕ) (inside : i < length c) (at : get_or c i 0 ≡ p) (apart : s.in_contact s.base p ≡ false) where

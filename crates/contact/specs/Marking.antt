@@ -16,11 +16,11 @@ carriers_marked m = map (is_marked m) m.configuration.now
 
 -- The place q is marked, and in contact with p.
 abbrev pub is_relay : {S : Type 0} → (S → Site) → Marking S → ℕ → ℕ → Bool
-is_relay meaning m p q = is_marked m q && (meaning m.site.now).in_contact q p
+is_relay meaning m q p = is_marked m q && (meaning m.site.now).in_contact q p
 
 -- The marked place of some carrier is in contact with p.
 abbrev pub is_heard : {S : Type 0} → (S → Site) → Marking S → ℕ → Bool
-is_heard meaning m p = list_any (is_relay meaning m p) m.configuration.now
+is_heard meaning m p = list_any (λ q. is_relay meaning m q p) m.configuration.now
 
 -- The place p is in contact with the base, or with the marked place of a carrier.
 abbrev pub is_near : {S : Type 0} → (S → Site) → Marking S → ℕ → Bool

@@ -50,7 +50,7 @@ impl<'a, S: Site> Marking<'a, S> {
 
     /// Is q marked, and in contact with p?
     fn is_relay(&self, q: usize, p: usize) -> bool
-        ensures { result ≡ is_relay S.Site.meaning self.now p q }
+        ensures { result ≡ is_relay S.Site.meaning self.now q p }
     {
         self.is_marked(q) && self.site.in_contact(q, p)
     }
@@ -59,7 +59,7 @@ impl<'a, S: Site> Marking<'a, S> {
     fn is_heard(&self, p: usize) -> bool
         ensures { result ≡ is_heard S.Site.meaning self.now p }
     {
-        self.configuration.iter().any(|q| self.is_relay(*q, p))
+        self.configuration.iter().any(|&q| self.is_relay(q, p))
     }
 
     /// Is the place p in contact with the base, or with the marked place of a carrier?
@@ -81,31 +81,29 @@ impl<'a, S: Site> Marking<'a, S> {
         ensures { Spreads S.Site.meaning self.now result }
     {
         let mut marks = self.marks;
-        let mut more = false;
-        for p in self.configuration {
-            if self.is_joining(*p) {
-                marks[*p] = true;
-                more = true;
+        for &p in self.configuration {
+            if self.is_joining(p) {
+                marks[p] = true;
             }
         }
-        more.then_some(Marking {
-            site: self.site,
-            configuration: self.configuration,
-            marks,
-        })
+        if marks == self.marks {
+            None
+        } else {
+            Some(Marking { marks, ..*self })
+        }
     }
 
     /// The index of the first carrier whose place is not marked.
     pub(crate) fn first_unmarked(&self) -> Option<usize>
         ensures { result ≡ position (λ p. not (is_marked self.now p)) self.now.configuration.now }
     {
-        self.configuration.iter().position(|p| !self.is_marked(*p))
+        self.configuration.iter().position(|&p| !self.is_marked(p))
     }
 
     /// The index of the first carrier whose place is marked and in contact with p.
     pub(crate) fn first_heard(&self, p: usize) -> Option<usize>
-        ensures { result ≡ position (is_relay S.Site.meaning self.now p) self.now.configuration.now }
+        ensures { result ≡ position (λ q. is_relay S.Site.meaning self.now q p) self.now.configuration.now }
     {
-        self.configuration.iter().position(|q| self.is_relay(*q, p))
+        self.configuration.iter().position(|&q| self.is_relay(q, p))
     }
 }

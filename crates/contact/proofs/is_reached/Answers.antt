@@ -1,5 +1,4 @@
-use Rattle.std.proofs.Common.{◌≡◌, ◌∙◌, sym, None, Some, arith, rules}
-use Rattle.contact.specs.Carrier.{place_of}
+use Rattle.std.proofs.Common.{◌∙◌, sym, rules}
 use Rattle.contact.proofs.Carriers.{no_carrier, reached_is}
 use Rattle.contact.proofs.is_reached.Goals as goal
 

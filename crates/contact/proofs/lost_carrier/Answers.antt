@@ -1,4 +1,4 @@
-use Rattle.std.proofs.Common.{rules, arith}
+use Rattle.std.proofs.Common.{arith}
 use Rattle.contact.proofs.Carriers.{lost_is}
 use Rattle.contact.proofs.lost_carrier.Goals as goal
 

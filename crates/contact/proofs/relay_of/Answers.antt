@@ -1,6 +1,4 @@
-use Rattle.std.proofs.Common.{◌≡◌, false, length, sym, ap, ◌∙◌, rules, arith, add-one, suc}
-use Rattle.model.specs.Contact.{hears, rounds}
-use Rattle.contact.specs.Marking.{IsAfter}
+use Rattle.std.proofs.Common.{sym, rules, arith, add-one, suc}
 use Rattle.contact.proofs.Marks.{none_heard, first_relay, unheard}
 use Rattle.contact.proofs.Relays.{relayed_by, not_relayed}
 use Rattle.contact.proofs.relay_of.Goals as goal
@@ -23,7 +21,7 @@ returns-in-Some g c =
     let place = c.in_ok-place.place in
     let k = c.loop-round._round in
     let (here, lower) = first_relay g.S.Site.meaning site configuration (suc k) c.in_ok-marking.marking
-                          (c.in_ok-marking.ensures site configuration k c.loop-round.invariant.0) place c.in-Some.i (sym c.in-Some.ensures) in
+    (c.in_ok-marking.ensures site configuration k c.loop-round.invariant.0) place c.in-Some.i (sym c.in-Some.ensures) in
     rw add-one (relayed_by (g.S.Site.meaning site) configuration c.args.carrier place (search rules) (search rules) k c.in-Some.i c.loop-round.invariant.1 here lower)
 
 pub loop-round-preserved : goal.loop-round-preserved

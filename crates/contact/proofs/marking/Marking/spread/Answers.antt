@@ -1,8 +1,17 @@
-use Rattle.std.proofs.Common.{arith}
-use Rattle.contact.proofs.Marks.{spreads}
+use Rattle.std.proofs.Common.{true, refl, arith}
+use Rattle.std.proofs.lemmas.Slice.Eq.{slice_eq-Decides}
+use Rattle.std.specs.Cmp.{booleans_Decides}
+use Rattle.contact.proofs.Marks.{spreads, rests}
 use Rattle.contact.proofs.marking.Marking.spread.Goals as goal
 
-pub returns : goal.returns
-returns g c =
+pub returns-then-eq : goal.returns-then-eq
+returns-then-eq g c =
     let self = c.args.self.now in
-    rw c.then_some.ensures (spreads g.S.Site.meaning self (g.S.Site.lawful self.site.now) c.loop-p.marks c.loop-p.more c.loop-p.p-index (omega arith) c.loop-p.invariant.0)
+    let marks = c.loop-p.marks in
+    rests g.S.Site.meaning self (g.S.Site.lawful self.site.now) marks c.loop-p.p-index (omega arith) c.loop-p.invariant.0
+    ((slice_eq-Decides booleans_Decides marks self.marks true c.if-eq.ensures).0 refl)
+
+pub returns-else-eq : goal.returns-else-eq
+returns-else-eq g c =
+    let self = c.args.self.now in
+    spreads g.S.Site.meaning self (g.S.Site.lawful self.site.now) c.loop-p.marks c.loop-p.p-index (omega arith) c.loop-p.invariant.0
