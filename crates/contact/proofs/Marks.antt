@@ -1,19 +1,18 @@
 -- Marks on places, and how they spread.
-use Rattle.std.proofs.Common.{◌≡◌, ℕ, suc, ◌+◌, ◌<◌, ◌≤◌, Bool, true, false, not, ◌&&◌, ◌||◌, ltb, List, [], ◌∷◌, map, length, get_or, replicate, is_some, cond, Some, None, subst, sym, refl, ap, ◌∙◌, ⊎_elim, arith}
-use Rattle.std.proofs.lemmas.List.{ext_get_or, get_or-map, length-map}
-use Rattle.std.proofs.lemmas.List.Folds.{Any-from_list_any}
+use Rattle.std.proofs.Common.{◌≡◌, ℕ, zero, suc, ◌+◌, ◌<◌, ◌≤◌, Bool, true, false, not, ◌&&◌, ◌||◌, ltb, List, [], ◌∷◌, map, length, get_or, replicate, is_some, Some, None, subst, sym, refl, ap, ◌∙◌, ⊎_elim, add-one, arith}
 use Rattle.std.proofs.lemmas.Bool.{and_parts, lt-ltb, or_cases}
+use Rattle.std.proofs.lemmas.Grind.{common_steps}
+use Rattle.std.proofs.lemmas.List.{get_or-map}
+use Rattle.std.proofs.lemmas.List.Folds.{Any-from_list_any}
 use Rattle.std.proofs.lemmas.List.Quantifiers.{position-Some}
-use Rattle.std.proofs.lemmas.Iterator.Adapters.{position_from-zero}
-use Rattle.std.specs.List.{list_any, position, position_from}
-use Rattle.std.specs.Bool.{then_some}
+use Rattle.std.specs.List.{list_any, position}
 use Rattle.model.specs.Limits.{most_places}
 use Rattle.model.specs.Site.{Site, Lawful}
 use Rattle.model.specs.Contact.{hears, rounds}
 use Rattle.model.proofs.Tables.{same_everywhere}
-use Rattle.model.proofs.Contact.{length_rounds, spread_at, rounds_all_of, rounds_stay}
+use Rattle.model.proofs.Contact.{spread_at, rounds_all_of, rounds_stay}
 use Rattle.contact.specs.declared.marking.Marking.{Marking}
-use Rattle.contact.specs.Marking.{carriers_marked, is_marked, is_relay, is_near, is_joining, IsAfter, Spreads}
+use Rattle.contact.specs.Marking.{carriers_marked, is_marked, is_relay, is_heard, is_near, is_joining, IsAfter, Spreads}
 
 -- A round, as far as the first k carriers: no mark is lost, only places that are to be marked are marked, and those of the first k
 -- carriers are.
@@ -22,94 +21,71 @@ pub record Pass {S : Type 0} (meaning : S → Site) (m : Marking S) (marks : Lis
   pub only : (p : ℕ) → get_or marks p false ≡ true → (is_marked m p || is_joining meaning m p) ≡ true
   pub done : (i : ℕ) → i < k → is_joining meaning m (get_or m.configuration.now i 0) ≡ true → get_or marks (get_or m.configuration.now i 0) false ≡ true
 
--- What is heard is what a carrier hears by the definitions.
-heard_is : (s : Site) (marked : ℕ → Bool) (c : List ℕ) (p : ℕ) → list_any (λ q. marked q && s.in_contact q p) c ≡ hears s c (map marked c) p
-heard_is s marked [] p = refl
-heard_is s marked (q ∷ c) p = ap (λ b. (marked q && s.in_contact q p) || b) (heard_is s marked c p)
+-- Two functions that agree at each element of a list.
+map_same : {A : Type 0} (f g : ℕ → A) (xs : List ℕ) → ((i : ℕ) → i < length xs → f (get_or xs i 0) ≡ g (get_or xs i 0)) → map f xs ≡ map g xs
+map_same f g [] same = refl
+map_same f g (x ∷ xs) same = cc (same 0 (omega arith), map_same f g xs (λ i l. same (suc i) (omega arith)))
 
 -- An element passes a test if one is found that does.
-found_from : {X : Type 0} (test : X → Bool) (xs : List X) (k : ℕ) → is_some (position_from test k xs) ≡ list_any test xs
-found_from test [] k = refl
-found_from test (x ∷ xs) k = elim (test x) as (λ b. is_some (cond b (Some k) (position_from test (k + 1) xs)) ≡ (b || list_any test xs)) [ true ↦ refl | false ↦ found_from test xs (k + 1) ]
-
-any_found : {X : Type 0} (test : X → Bool) (xs : List X) → is_some (position test xs) ≡ list_any test xs
-any_found test xs = ap is_some (position_from-zero test xs) ∙ found_from test xs 0
+any_found : {X : Type 0} (test : X → Bool) (xs : List X) → list_any test xs ≡ is_some (position test xs)
+any_found test [] = refl
+any_found test (x ∷ xs) = grind (arith, common_steps, any_found test xs)
 
 -- Before the first round nobody is marked.
 pub none_marked : (c : List ℕ) → map (λ p. get_or (replicate most_places false) p false) c ≡ replicate (length c) false
 none_marked [] = refl
 none_marked (q ∷ c) = cc (same_everywhere most_places false q, none_marked c)
 
-pub none_heard : (s : Site) (c : List ℕ) (p : ℕ) → hears s c (rounds 0 s c) p ≡ false
-none_heard s [] p = refl
-none_heard s (q ∷ c) p = none_heard s c p
+-- Whom a marked carrier hears, by the definitions.
+heard_is : (s : Site) (marked : ℕ → Bool) (c : List ℕ) (p : ℕ) → list_any (λ q. marked q && s.in_contact q p) c ≡ hears s c (map marked c) p
+heard_is s marked [] p = refl
+heard_is s marked (q ∷ c) p = cc (heard_is s marked c p)
 
 module _ {S : Type 0} (meaning : S → Site) (m : Marking S) where
-  -- Who stands at a marked place.
-  pub marked_at : (i : ℕ) → i < length m.configuration.now → get_or (carriers_marked m) i false ≡ is_marked m (get_or m.configuration.now i 0)
-  marked_at i l = get_or-map (is_marked m) m.configuration.now i 0 false l
-
-  same_rounds : (site : S) (c : List ℕ) (k : ℕ) → IsAfter meaning site c k m → (n : ℕ) → rounds n (meaning m.site.now) m.configuration.now ≡ rounds n (meaning site) c
-  same_rounds site c k after n = cc
+  -- Where nobody is found, nobody is heard.
+  pub unheard : (p : ℕ) → position (λ q. is_relay meaning m q p) m.configuration.now ≡ None → is_heard meaning m p ≡ false
+  unheard p none = cc (any_found (λ q. is_relay meaning m q p) m.configuration.now)
 
   -- What is near is a place.
   near_is_place : Lawful (meaning m.site.now) → (p : ℕ) → is_near meaning m p ≡ true → p < most_places
-  near_is_place lawful p h = ⊎_elim (place (meaning m.site.now).base) (λ heard. let (_, q, _, _, t) = Any-from_list_any (λ q. is_relay meaning m q p) m.configuration.now heard in place q (and_parts (is_marked m q) _ t).1) (or_cases _ _ h)
+  near_is_place lawful p h =
+      ⊎_elim (place (meaning m.site.now).base)
+      (λ heard. let (_, q, _, _, t) = Any-from_list_any (λ q. is_relay meaning m q p) m.configuration.now heard in place q (and_parts (is_marked m q) _ t).1) (or_cases _ _ h)
     where
       place : (q : ℕ) → (meaning m.site.now).in_contact q p ≡ true → p < most_places
       place q t = let l = lawful.contact_is_place p q (lawful.contact_both_ways p q ∙ t) in omega (arith, lawful.few_places)
 
-  -- A round takes the marks from one round of the definition to the next.
-  next_round : Lawful (meaning m.site.now) → (marks : List Bool) (n : ℕ) → length m.configuration.now ≤ n → Pass meaning m marks n
-      → (k : ℕ) → carriers_marked m ≡ rounds k (meaning m.site.now) m.configuration.now
-      → map (λ p. get_or marks p false) m.configuration.now ≡ rounds (suc k) (meaning m.site.now) m.configuration.now
-  next_round lawful marks n all pass k same =
-      ext_get_or false (map (λ p. get_or marks p false) c) (rounds (suc k) s c) (length-map c _ ∙ sym (length_rounds s c (suc k)))
-      (λ i l. at i (rw length-map at l))
-    where
-      s : Site
-      s = meaning m.site.now
-
-      c : List ℕ
-      c = m.configuration.now
-
-      at : (i : ℕ) → i < length c → get_or (map (λ p. get_or marks p false) c) i false ≡ get_or (rounds (suc k) s c) i false
-      at i l =
-          let p = get_or c i 0 in
-          let here : is_marked m p ≡ get_or (rounds k s c) i false = sym (marked_at i l) ∙ ap (λ marks. get_or marks i false) same in
-          let next : get_or (rounds (suc k) s c) i false ≡ is_near meaning m p =
-          spread_at s c (rounds k s c) i l ∙ ap (λ b. s.in_contact s.base p || b) (ap (λ marks. hears s c marks p) (sym same) ∙ sym (heard_is s (is_marked m) c p)) in
-          get_or-map _ c i 0 false l
-          ∙ joined (is_marked m p) (get_or marks p false) (is_near meaning m p) (ltb p most_places) (pass.kept p) (pass.only p) (pass.done i (omega arith))
-          (λ h. lt-ltb p most_places (near_is_place lawful p h)) (λ h. sym next ∙ rounds_all_of s c k i (sym here ∙ h))
-          ∙ sym next
-        where
-          joined : (b a n t : Bool) → (b ≡ true → a ≡ true) → (a ≡ true → (b || (t && not b && n)) ≡ true) → ((t && not b && n) ≡ true → a ≡ true) → (n ≡ true → t ≡ true) → (b ≡ true → n ≡ true) → a ≡ n
-          joined b a n t kept only done place grows = grind arith
-
-  -- What a pass over all carriers makes is one round more.
-  pub spreads : Lawful (meaning m.site.now) → (marks : List Bool) (n : ℕ) → length m.configuration.now ≤ n → Pass meaning m marks n
-      → Spreads meaning m (Some (record m { marks = marks }))
-  spreads lawful marks n all pass site c k after = record {
-      site_is = after.site_is;
-      configuration_is = after.configuration_is;
-      marked = next_round lawful marks n all pass k (after.marked ∙ sym (same_rounds site c k after k)) ∙ same_rounds site c k after (suc k);
-    }
-
-  -- Where it changes nothing, all rounds are made.
-  pub rests : Lawful (meaning m.site.now) → (marks : List Bool) (n : ℕ) → length m.configuration.now ≤ n → Pass meaning m marks n → marks ≡ m.marks → Spreads meaning m None
-  rests lawful marks n all pass still site c k l after =
-      let next = spreads lawful marks n all pass site c k after in
-      let rests : rounds (suc k) (meaning site) c ≡ rounds k (meaning site) c = sym next.marked ∙ ap (λ marks. map (λ p. get_or marks p false) m.configuration.now) still ∙ after.marked in
-      record { site_is = after.site_is; configuration_is = after.configuration_is; marked = after.marked ∙ sym (rounds_stay (meaning site) c k rests (length c) l) }
-
 module _ {S : Type 0} (meaning : S → Site) (site : S) (c : List ℕ) (k : ℕ) (m : Marking S) (after : IsAfter meaning site c k m) where
   -- A carrier stands at a marked place if it is marked after that many rounds.
   pub marked_is : (i : ℕ) → i < length c → is_marked m (get_or c i 0) ≡ get_or (rounds k (meaning site) c) i false
-  marked_is i l = let own : i < length m.configuration.now = omega (arith, ap length after.configuration_is) in cc (marked_at meaning m i own)
+  marked_is i l = cc (get_or-map (is_marked m) m.configuration.now i 0 false (omega (arith, ap length after.configuration_is)))
 
-  relay_at : (p i : ℕ) → i < length c → is_relay meaning m (get_or c i 0) p ≡ (get_or (rounds k (meaning site) c) i false && (meaning site).in_contact (get_or c i 0) p)
-  relay_at p i l = cc (marked_is i l)
+  -- Whoever is heard is heard after that many rounds.
+  pub heard_after : (p : ℕ) → is_heard meaning m p ≡ hears (meaning site) c (rounds k (meaning site) c) p
+  heard_after p = cc (heard_is (meaning m.site.now) (is_marked m) m.configuration.now p)
+
+  near_after : (p : ℕ) → is_near meaning m p ≡ ((meaning site).in_contact (meaning site).base p || hears (meaning site) c (rounds k (meaning site) c) p)
+  near_after p = cc (heard_after p)
+
+  module _ (lawful : Lawful (meaning m.site.now)) (marks : List Bool) (n : ℕ) (all : length m.configuration.now ≤ n) (pass : Pass meaning m marks n) where
+    at : (i : ℕ) → i < length c → get_or marks (get_or c i 0) false ≡ ((meaning site).in_contact (meaning site).base (get_or c i 0) || hears (meaning site) c (rounds k (meaning site) c) (get_or c i 0))
+    at i l =
+        let p = get_or c i 0 in
+        let here : get_or m.configuration.now i 0 ≡ p = ap (λ d. get_or d i 0) after.configuration_is in
+        let own : i < n = omega (arith, ap length after.configuration_is) in
+        let done : is_joining meaning m p ≡ true → get_or marks p false ≡ true = λ j. cc (pass.done i own (cc)) in
+        let grows : is_marked m p ≡ true → is_near meaning m p ≡ true = λ h. near_after p ∙ sym (spread_at (meaning site) c (rounds k (meaning site) c) i l) ∙ rounds_all_of (meaning site) c k i (sym (marked_is i l) ∙ h) in
+        grind (arith, pass.kept p, pass.only p, done, grows, near_is_place meaning m lawful p, near_after p)
+
+    -- What a pass over all carriers makes is one round more.
+    pub spreads : IsAfter meaning site c (k + 1) (record m { marks = marks })
+    spreads = rw add-one record { site_is = after.site_is; configuration_is = after.configuration_is; marked = ap (map (λ p. get_or marks p false)) after.configuration_is ∙ map_same _ _ c at }
+
+    -- Where it changes nothing, all rounds are made.
+    pub rests : marks ≡ m.marks → k ≤ length c → IsAfter meaning site c (length c) m
+    rests still l =
+        let rests : rounds (suc k) (meaning site) c ≡ rounds k (meaning site) c = sym (rw add-one at spreads.marked) ∙ ap (λ marks. map (λ p. get_or marks p false) m.configuration.now) still ∙ after.marked in
+        record { site_is = after.site_is; configuration_is = after.configuration_is; marked = after.marked ∙ sym (rounds_stay (meaning site) c k rests (length c) l) }
 
   -- The first carrier that is heard at p is the first of those that are marked after that many rounds.
   pub first_relay : (p j : ℕ) → position (λ q. is_relay meaning m q p) m.configuration.now ≡ Some j
@@ -117,8 +93,15 @@ module _ {S : Type 0} (meaning : S → Site) (site : S) (c : List ℕ) (k : ℕ)
       × ((h : ℕ) → h < j → (get_or (rounds k (meaning site) c) h false && (meaning site).in_contact (get_or c h 0) p) ≡ false)
   first_relay p j found =
       let (l, here, lower) = position-Some (λ q. is_relay meaning m q p) c j 0 (subst (λ d. position (λ q. is_relay meaning m q p) d ≡ Some j) after.configuration_is found) in
-      (sym (relay_at p j l) ∙ here, λ h b. sym (relay_at p h (omega arith)) ∙ lower h b)
+      (sym (relay_at j l) ∙ here, λ h b. sym (relay_at h (omega arith)) ∙ lower h b)
+    where
+      relay_at : (i : ℕ) → i < length c → is_relay meaning m (get_or c i 0) p ≡ (get_or (rounds k (meaning site) c) i false && (meaning site).in_contact (get_or c i 0) p)
+      relay_at i l = cc (marked_is i l)
 
-  -- Where no carrier is heard at p, nobody is who is marked after that many rounds.
-  pub unheard : (p : ℕ) → position (λ q. is_relay meaning m q p) m.configuration.now ≡ None → hears (meaning site) c (rounds k (meaning site) c) p ≡ false
-  unheard p none = cc (heard_is (meaning m.site.now) (is_marked m) m.configuration.now p, any_found (λ q. is_relay meaning m q p) m.configuration.now)
+-- Before the first round nobody is heard.
+pub none_heard : {S : Type 0} (meaning : S → Site) (site : S) (c : List ℕ) (m : Marking S) → IsAfter meaning site c 0 m → (p : ℕ) → is_heard meaning m p ≡ false
+none_heard meaning site c m after p = heard_after meaning site c 0 m after p ∙ nobody (meaning site) c p
+  where
+    nobody : (s : Site) (c : List ℕ) (p : ℕ) → hears s c (replicate (length c) false) p ≡ false
+    nobody s [] p = refl
+    nobody s (q ∷ c) p = nobody s c p

@@ -1,7 +1,8 @@
 -- The last relay of a carrier.
-use Rattle.std.proofs.Common.{◌≡◌, ℕ, zero, suc, ◌<◌, true, false, ◌&&◌, ◌||◌, List, length, get_or, Some, None, Option, sym, ap, ◌∙◌, subst, ⊎_elim, arith}
+use Rattle.std.proofs.Common.{◌≡◌, ℕ, zero, suc, ◌+◌, ◌<◌, true, false, ◌&&◌, ◌||◌, List, length, get_or, Some, None, Option, sym, ap, ◌∙◌, subst, ⊎_elim, add-one, arith}
 use Rattle.std.proofs.lemmas.Bool.{and_from, and_parts, cases_lt, or_from, both_ways}
 use Rattle.std.proofs.lemmas.Option.{slice_get_within, get_or_from_slice_get}
+use Rattle.std.specs.List.{position}
 use Rattle.model.specs.declared.relay.Relay.{Relay}
 use Rattle.model.specs.declared.relay.Relay.TheVariants.{Carrier}
 use Rattle.model.specs.Site.{Site}
@@ -9,7 +10,10 @@ use Rattle.model.specs.Contact.{Reached, hears, rounds}
 use Rattle.model.specs.Relay.{Chain, LastRelay, RelayedBy, RelayOf}
 use Rattle.model.proofs.Contact.{Marked, spread_at, rounds_rest, marked_iff_reached}
 use Rattle.model.proofs.Chains.{chain_of_round, round_of_chain}
+use Rattle.contact.specs.declared.marking.Marking.{Marking}
 use Rattle.contact.specs.Carrier.{place_of}
+use Rattle.contact.specs.Marking.{is_heard, is_relay, IsAfter}
+use Rattle.contact.proofs.Marks.{first_relay, heard_after}
 
 module _ (s : Site) (c : List ℕ) (i p : ℕ) (inside : i < length c) (at : get_or c i 0 ≡ p) (apart : s.in_contact s.base p ≡ false) where
   -- A carrier that hears neither the base nor whom round k marks is not marked in the next.
@@ -45,10 +49,14 @@ by_number : (s : Site) (c : List ℕ) (n p : ℕ) (r : Option Relay) → place_o
 by_number s c zero p r some h = absurd (cc)
 by_number s c (suc i) p r some h = h i (slice_get_within c i p some) (get_or_from_slice_get c i p 0 some)
 
-module _ (s : Site) (c : List ℕ) (n p : ℕ) (some : place_of c n ≡ Some p) (apart : s.in_contact s.base p ≡ false) where
-  pub relayed_by : (k j : ℕ) → hears s c (rounds k s c) p ≡ false → (get_or (rounds (suc k) s c) j false && s.in_contact (get_or c j 0) p) ≡ true
-      → ((h : ℕ) → h < j → (get_or (rounds (suc k) s c) h false && s.in_contact (get_or c h 0) p) ≡ false) → RelayOf s c n (Some (Carrier (suc j)))
-  relayed_by k j silent here lower = by_number s c n p (Some (Carrier (suc j))) some (λ i inside at. (inside, last_relay s c i p inside at apart k j silent here lower))
+module _ {S : Type 0} (meaning : S → Site) (site : S) (c : List ℕ) (n p : ℕ) (some : place_of c n ≡ Some p) (apart : (meaning site).in_contact (meaning site).base p ≡ false) where
+  -- The first that is heard, where nobody was a round before.
+  pub relayed_by : (k : ℕ) (before after : Marking S) → IsAfter meaning site c k before → is_heard meaning before p ≡ false → IsAfter meaning site c (k + 1) after
+      → (j : ℕ) → position (λ q. is_relay meaning after q p) after.configuration.now ≡ Some j → RelayOf (meaning site) c n (Some (Carrier (j + 1)))
+  relayed_by k before after was silent is j found =
+      let (here, lower) = first_relay meaning site c (suc k) after (rw add-one at is) p j found in
+      rw add-one (by_number (meaning site) c n p (Some (Carrier (suc j))) some (λ i inside at. (inside, last_relay (meaning site) c i p inside at apart k j (sym (heard_after meaning site c k before was p) ∙ silent) here lower)))
 
-  pub not_relayed : hears s c (rounds (length c) s c) p ≡ false → RelayOf s c n None
-  not_relayed silent = by_number s c n p None some (λ i inside at. not_reached s c i p inside at apart silent)
+  -- Nobody, where nobody is heard after all rounds.
+  pub not_relayed : (m : Marking S) → IsAfter meaning site c (length c) m → is_heard meaning m p ≡ false → RelayOf (meaning site) c n None
+  not_relayed m after silent = by_number (meaning site) c n p None some (λ i inside at. not_reached (meaning site) c i p inside at apart (sym (heard_after meaning site c (length c) m after p) ∙ silent))

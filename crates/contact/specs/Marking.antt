@@ -1,5 +1,5 @@
 -- Which places are marked, and how marks spread over a configuration.
-use Rattle.std.specs.Prelude.{◌≡◌, ℕ, suc, ◌≤◌, Bool, false, not, ◌&&◌, ◌||◌, List, map, length, Option, Some, None, nat_lt, slice_index_or}
+use Rattle.std.specs.Prelude.{◌≡◌, ℕ, ◌+◌, ◌≤◌, Bool, false, not, ◌&&◌, ◌||◌, List, map, length, Option, Some, None, nat_lt, slice_index_or}
 use Rattle.std.specs.List.{list_any}
 use Rattle.model.specs.Limits.{most_places}
 use Rattle.model.specs.Site.{Site}
@@ -38,5 +38,5 @@ pub record IsAfter {S : Type 0} (meaning : S → Site) (site : S) (configuration
 
 -- What one round more makes of a marking after some rounds: the next, or nothing where it is already the one after all rounds.
 abbrev pub Spreads : {S : Type 0} → (S → Site) → Marking S → Option (Marking S) → Type 0
-Spreads meaning m (Some next) = (site : _) (c : List ℕ) (k : ℕ) → IsAfter meaning site c k m → IsAfter meaning site c (suc k) next
+Spreads meaning m (Some next) = (site : _) (c : List ℕ) (k : ℕ) → IsAfter meaning site c k m → IsAfter meaning site c (k + 1) next
 Spreads meaning m None = (site : _) (c : List ℕ) (k : ℕ) → k ≤ length c → IsAfter meaning site c k m → IsAfter meaning site c (length c) m

@@ -5,13 +5,13 @@ use Rattle.contact.proofs.Marks.{spreads, rests}
 use Rattle.contact.proofs.marking.Marking.spread.Goals as goal
 
 pub returns-then-eq : goal.returns-then-eq
-returns-then-eq g c =
+returns-then-eq g c = λ site configuration k l after.
     let self = c.args.self.now in
     let marks = c.loop-p.marks in
-    rests g.S.Site.meaning self (g.S.Site.lawful self.site.now) marks c.loop-p.p-index (omega arith) c.loop-p.invariant.0
-    ((slice_eq-Decides booleans_Decides marks self.marks true c.if-eq.ensures).0 refl)
+    rests g.S.Site.meaning site configuration k self after (g.S.Site.lawful self.site.now) marks c.loop-p.p-index (omega arith) c.loop-p.invariant.0
+    ((slice_eq-Decides booleans_Decides marks self.marks true c.if-eq.ensures).0 refl) l
 
 pub returns-else-eq : goal.returns-else-eq
-returns-else-eq g c =
+returns-else-eq g c = λ site configuration k after.
     let self = c.args.self.now in
-    spreads g.S.Site.meaning self (g.S.Site.lawful self.site.now) c.loop-p.marks c.loop-p.p-index (omega arith) c.loop-p.invariant.0
+    spreads g.S.Site.meaning site configuration k self after (g.S.Site.lawful self.site.now) c.loop-p.marks c.loop-p.p-index (omega arith) c.loop-p.invariant.0
