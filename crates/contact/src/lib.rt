@@ -34,9 +34,8 @@ pub fn is_reached<S: Site>(site: &S, configuration: &[usize], carrier: usize) ->
 pub fn lost_carrier<S: Site>(site: &S, configuration: &[usize]) -> Option<usize>
     ensures { result ≡ lost (S.Site.meaning site.now) configuration.now }
 {
-    Marking::reached(site, configuration)
-        .first_unmarked()
-        .map(|i| i + 1)
+    let reached = Marking::reached(site, configuration);
+    reached.first_unmarked().map(|i| i + 1)
 }
 
 /// Is the configuration in contact: is every carrier reached?

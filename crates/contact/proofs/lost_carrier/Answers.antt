@@ -4,5 +4,5 @@ use Rattle.contact.proofs.lost_carrier.Goals as goal
 
 pub returns : goal.returns
 returns g c =
-    let lost = lost_is g.S.Site.meaning c.args.site.now c.args.configuration.now c.reached.result c.reached.ensures in
+    let lost = lost_is g.S.Site.meaning c.args.site.now c.args.configuration.now c.reached-reached.result c.reached-reached.ensures in
     grind (arith, lost)
