@@ -9,26 +9,22 @@ use Rattle.model.specs.Site.{Site}
 use Rattle.model.specs.Contact.{is_reached, first_unmarked, lost, reached_marks}
 use Rattle.model.proofs.Contact.{length_rounds}
 use Rattle.contact.specs.declared.marking.Marking.{Marking}
-use Rattle.contact.specs.Carrier.{place_of}
+use Rattle.contact.specs.Carrier.{find_place}
 use Rattle.contact.specs.Marking.{is_marked, IsAfter}
 use Rattle.contact.proofs.Marks.{marked_is}
 
-pub no_carrier : (s : Site) (c : List ℕ) (k : ℕ) → place_of c k ≡ None → is_reached s c k ≡ false
+pub no_carrier : (s : Site) (c : List ℕ) (k : ℕ) → find_place c k ≡ None → is_reached s c k ≡ false
 no_carrier s c zero none = refl
-no_carrier s c (suc i) none = let past : length c ≤ i = grind (arith, slice_get_cases c i) in get_or_past (reached_marks s c) i false (omega (arith, length_rounds s c (length c)))
+no_carrier s c (suc i) none = grind (arith, slice_get_cases c i, get_or_past (reached_marks s c) i false, length_rounds s c (length c))
 
 first_is : (marked : ℕ → Bool) (c : List ℕ) (k : ℕ) → option_map (λ i. i + 1) (position_from (λ p. not (marked p)) k c) ≡ first_unmarked (k + 1) (map marked c)
 first_is marked [] k = refl
-first_is marked (q ∷ c) k =
-    elim (marked q) as (λ b. option_map (λ i. i + 1) (cond (not b) (Some k) (position_from (λ p. not (marked p)) (k + 1) c)) ≡ first_unmarked (k + 1) (b ∷ map marked c)) [
-      | true ↦ first_is marked c (k + 1) ∙ ap (λ n. first_unmarked n (map marked c)) (add-one (k + 1))
-      | false ↦ refl
-    ]
+first_is marked (q ∷ c) k = grind (arith, first_is marked c (k + 1))
 
 module _ {S : Type 0} (meaning : S → Site) (site : S) (c : List ℕ) (m : Marking S) (after : IsAfter meaning site c (length c) m) where
-  pub reached_is : (k p : ℕ) → place_of c k ≡ Some p → is_marked m p ≡ is_reached (meaning site) c k
+  pub reached_is : (k p : ℕ) → find_place c k ≡ Some p → is_marked m p ≡ is_reached (meaning site) c k
   reached_is zero p some = cc
-  reached_is (suc i) p some = ap (is_marked m) (sym (get_or_from_slice_get c i p 0 some)) ∙ marked_is meaning site c (length c) m after i (slice_get_within c i p some)
+  reached_is (suc i) p some = cc (get_or_from_slice_get c i p 0 some, marked_is meaning site c (length c) m after i (slice_get_within c i p some))
 
   pub lost_is : option_map (λ i. i + 1) (position (λ p. not (is_marked m p)) m.configuration.now) ≡ lost (meaning site) c
   lost_is = ap (option_map (λ i. i + 1)) (position_from-zero (λ p. not (is_marked m p)) m.configuration.now) ∙ first_is (is_marked m) m.configuration.now 0 ∙ ap (first_unmarked 1) after.marked

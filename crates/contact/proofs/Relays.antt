@@ -11,14 +11,14 @@ use Rattle.model.specs.Relay.{Chain, LastRelay, RelayedBy, RelayOf}
 use Rattle.model.proofs.Contact.{Marked, spread_at, rounds_rest, marked_iff_reached}
 use Rattle.model.proofs.Chains.{chain_of_round, round_of_chain}
 use Rattle.contact.specs.declared.marking.Marking.{Marking}
-use Rattle.contact.specs.Carrier.{place_of}
+use Rattle.contact.specs.Carrier.{find_place}
 use Rattle.contact.specs.Marking.{is_heard, is_relay, IsAfter}
 use Rattle.contact.proofs.Marks.{first_relay, heard_after}
 
 module _ (s : Site) (c : List ℕ) (i p : ℕ) (inside : i < length c) (at : get_or c i 0 ≡ p) (apart : s.in_contact s.base p ≡ false) where
   -- A carrier that hears neither the base nor whom round k marks is not marked in the next.
   unmarked_next : (k : ℕ) → hears s c (rounds k s c) p ≡ false → Marked (rounds (suc k) s c) i → ⊥
-  unmarked_next k silent m = both_ways _ (or_from _ _ apart silent) (ap (λ q. s.in_contact s.base q || hears s c (rounds k s c) q) (sym at) ∙ sym (spread_at s c (rounds k s c) i inside) ∙ m)
+  unmarked_next k silent m = grind (arith, spread_at s c (rounds k s c) i inside)
 
   -- The first that is heard in a round is the last relay, if nobody was heard in the round before.
   last_relay : (k j : ℕ) → hears s c (rounds k s c) p ≡ false → (get_or (rounds (suc k) s c) j false && s.in_contact (get_or c j 0) p) ≡ true
@@ -45,11 +45,11 @@ module _ (s : Site) (c : List ℕ) (i p : ℕ) (inside : i < length c) (at : get
   not_reached silent r = unmarked_next (length c) silent (subst (λ all. Marked all i) (rounds_rest s c) ((marked_iff_reached s c i).1 r))
 
 -- By a carrier's number: what holds at the index of whoever stands there.
-by_number : (s : Site) (c : List ℕ) (n p : ℕ) (r : Option Relay) → place_of c n ≡ Some p → ((i : ℕ) → i < length c → get_or c i 0 ≡ p → RelayedBy s c i r) → RelayOf s c n r
+by_number : (s : Site) (c : List ℕ) (n p : ℕ) (r : Option Relay) → find_place c n ≡ Some p → ((i : ℕ) → i < length c → get_or c i 0 ≡ p → RelayedBy s c i r) → RelayOf s c n r
 by_number s c zero p r some h = absurd (cc)
 by_number s c (suc i) p r some h = h i (slice_get_within c i p some) (get_or_from_slice_get c i p 0 some)
 
-module _ {S : Type 0} (meaning : S → Site) (site : S) (c : List ℕ) (n p : ℕ) (some : place_of c n ≡ Some p) (apart : (meaning site).in_contact (meaning site).base p ≡ false) where
+module _ {S : Type 0} (meaning : S → Site) (site : S) (c : List ℕ) (n p : ℕ) (some : find_place c n ≡ Some p) (apart : (meaning site).in_contact (meaning site).base p ≡ false) where
   -- The first that is heard, where nobody was a round before.
   pub relayed_by : (k : ℕ) (before after : Marking S) → IsAfter meaning site c k before → is_heard meaning before p ≡ false → IsAfter meaning site c (k + 1) after
       → (j : ℕ) → position (λ q. is_relay meaning after q p) after.configuration.now ≡ Some j → RelayOf (meaning site) c n (Some (Carrier (j + 1)))

@@ -2,6 +2,6 @@
 use Rattle.std.specs.Prelude.{ℕ, zero, suc, List, None, Option, slice_get}
 
 -- The place of the carrier of this number, if there is one.
-abbrev pub place_of : List ℕ → ℕ → Option ℕ
-place_of c zero = None
-place_of c (suc i) = slice_get c i
+abbrev pub find_place : List ℕ → ℕ → Option ℕ
+find_place c zero = None
+find_place c (suc i) = slice_get c i

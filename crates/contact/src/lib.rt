@@ -5,7 +5,7 @@
 ghost use Rattle.std.specs.Prelude.{◌≡◌};
 ghost use Rattle.model.specs.Contact.{is_connected, is_reached, lost};
 ghost use Rattle.model.specs.Relay.{RelayOf};
-ghost use Rattle.contact.specs.Carrier.{place_of};
+ghost use Rattle.contact.specs.Carrier.{find_place};
 
 use marking::Marking;
 use model::relay::Relay;
@@ -14,8 +14,8 @@ use site::Site;
 mod marking;
 
 /// The place of the carrier of this number, counted from 1, if there is one.
-fn place_of(configuration: &[usize], carrier: usize) -> Option<usize>
-    ensures { result ≡ place_of configuration.now carrier }
+fn find_place(configuration: &[usize], carrier: usize) -> Option<usize>
+    ensures { result ≡ find_place configuration.now carrier }
 {
     configuration.get(carrier.checked_sub(1)?).copied()
 }
@@ -24,7 +24,7 @@ fn place_of(configuration: &[usize], carrier: usize) -> Option<usize>
 pub fn is_reached<S: Site>(site: &S, configuration: &[usize], carrier: usize) -> bool
     ensures { result ≡ is_reached (S.Site.meaning site.now) configuration.now carrier }
 {
-    let Some(place) = place_of(configuration, carrier) else {
+    let Some(place) = find_place(configuration, carrier) else {
         return false;
     };
     Marking::reached(site, configuration).is_marked(place)
@@ -50,7 +50,7 @@ pub fn is_connected<S: Site>(site: &S, configuration: &[usize]) -> bool
 pub fn relay_of<S: Site>(site: &S, configuration: &[usize], carrier: usize) -> Option<Relay>
     ensures { RelayOf (S.Site.meaning site.now) configuration.now carrier result }
 {
-    let place = place_of(configuration, carrier)?;
+    let place = find_place(configuration, carrier)?;
     if site.in_contact(site.base(), place) {
         return Some(Relay::Base);
     }
