@@ -1,6 +1,6 @@
 -- Marks on places, and how they spread.
-use Rattle.std.proofs.Common.{◌≡◌, ℕ, zero, suc, ◌+◌, ◌<◌, ◌≤◌, Bool, true, false, not, ◌&&◌, ◌||◌, ltb, List, [], ◌∷◌, map, length, get_or, replicate, is_some, Some, None, subst, sym, refl, ap, ◌∙◌, ⊎_elim, add-one, arith}
-use Rattle.std.proofs.lemmas.Bool.{and_parts, lt-ltb, or_cases}
+use Rattle.std.proofs.Common.{◌≡◌, ℕ, suc, ◌+◌, ◌<◌, ◌≤◌, Bool, true, false, ◌&&◌, ◌||◌, List, [], ◌∷◌, map, length, get_or, replicate, is_some, Some, None, subst, sym, refl, ap, ◌∙◌, ⊎_elim, add-one, arith}
+use Rattle.std.proofs.lemmas.Bool.{and_parts, or_cases}
 use Rattle.std.proofs.lemmas.Grind.{common_steps}
 use Rattle.std.proofs.lemmas.List.{get_or-map}
 use Rattle.std.proofs.lemmas.List.Folds.{Any-from_list_any}
@@ -12,7 +12,15 @@ use Rattle.model.specs.Contact.{hears, rounds}
 use Rattle.model.proofs.Tables.{same_everywhere}
 use Rattle.model.proofs.Contact.{spread_at, rounds_all_of, rounds_stay}
 use Rattle.contact.specs.declared.marking.Marking.{Marking}
-use Rattle.contact.specs.Marking.{carriers_marked, is_marked, is_relay, is_heard, is_near, is_joining, IsAfter, Spreads}
+use Rattle.contact.specs.Marking.{is_marked, is_relay, is_heard, is_near, is_joining, IsAfter}
+
+-- The carrier at index i is marked after k rounds, and in contact with p.
+abbrev pub relays : Site → List ℕ → ℕ → ℕ → ℕ → Bool
+relays s c k i p = get_or (rounds k s c) i false && s.in_contact (get_or c i 0) p
+
+-- The base, or a carrier that is marked after k rounds, is in contact with p.
+abbrev pub reaches : Site → List ℕ → ℕ → ℕ → Bool
+reaches s c k p = s.in_contact s.base p || hears s c (rounds k s c) p
 
 -- A round, as far as the first k carriers: no mark is lost, only places that are to be marked are marked, and those of the first k
 -- carriers are.
@@ -64,11 +72,11 @@ module _ {S : Type 0} (meaning : S → Site) (site : S) (c : List ℕ) (k : ℕ)
   pub heard_after : (p : ℕ) → is_heard meaning m p ≡ hears (meaning site) c (rounds k (meaning site) c) p
   heard_after p = cc (heard_is (meaning m.site.now) (is_marked m) m.configuration.now p)
 
-  near_after : (p : ℕ) → is_near meaning m p ≡ ((meaning site).in_contact (meaning site).base p || hears (meaning site) c (rounds k (meaning site) c) p)
+  near_after : (p : ℕ) → is_near meaning m p ≡ reaches (meaning site) c k p
   near_after p = cc (heard_after p)
 
   module _ (lawful : Lawful (meaning m.site.now)) (marks : List Bool) (n : ℕ) (all : length m.configuration.now ≤ n) (pass : Pass meaning m marks n) where
-    at : (i : ℕ) → i < length c → get_or marks (get_or c i 0) false ≡ ((meaning site).in_contact (meaning site).base (get_or c i 0) || hears (meaning site) c (rounds k (meaning site) c) (get_or c i 0))
+    at : (i : ℕ) → i < length c → get_or marks (get_or c i 0) false ≡ reaches (meaning site) c k (get_or c i 0)
     at i l =
         let p = get_or c i 0 in
         let here : get_or m.configuration.now i 0 ≡ p = ap (λ d. get_or d i 0) after.configuration_is in
@@ -89,13 +97,12 @@ module _ {S : Type 0} (meaning : S → Site) (site : S) (c : List ℕ) (k : ℕ)
 
   -- The first carrier that is heard at p is the first of those that are marked after that many rounds.
   pub first_relay : (p j : ℕ) → position (λ q. is_relay meaning m q p) m.configuration.now ≡ Some j
-      → ((get_or (rounds k (meaning site) c) j false && (meaning site).in_contact (get_or c j 0) p) ≡ true)
-      × ((h : ℕ) → h < j → (get_or (rounds k (meaning site) c) h false && (meaning site).in_contact (get_or c h 0) p) ≡ false)
+      → (relays (meaning site) c k j p ≡ true) × ((h : ℕ) → h < j → relays (meaning site) c k h p ≡ false)
   first_relay p j found =
       let (l, here, lower) = position-Some (λ q. is_relay meaning m q p) c j 0 (subst (λ d. position (λ q. is_relay meaning m q p) d ≡ Some j) after.configuration_is found) in
       (sym (relay_at j l) ∙ here, λ h b. sym (relay_at h (omega arith)) ∙ lower h b)
     where
-      relay_at : (i : ℕ) → i < length c → is_relay meaning m (get_or c i 0) p ≡ (get_or (rounds k (meaning site) c) i false && (meaning site).in_contact (get_or c i 0) p)
+      relay_at : (i : ℕ) → i < length c → is_relay meaning m (get_or c i 0) p ≡ relays (meaning site) c k i p
       relay_at i l = cc (marked_is i l)
 
 -- Before the first round nobody is heard.

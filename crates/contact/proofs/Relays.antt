@@ -1,19 +1,19 @@
 -- The last relay of a carrier.
-use Rattle.std.proofs.Common.{◌≡◌, ℕ, zero, suc, ◌+◌, ◌<◌, true, false, ◌&&◌, ◌||◌, List, length, get_or, Some, None, Option, sym, ap, ◌∙◌, subst, ⊎_elim, add-one, arith}
-use Rattle.std.proofs.lemmas.Bool.{and_from, and_parts, cases_lt, or_from, both_ways}
+use Rattle.std.proofs.Common.{◌≡◌, ℕ, zero, suc, ◌+◌, ◌<◌, ◌≤◌, true, false, List, length, get_or, Some, None, Option, sym, ◌∙◌, subst, add-one, arith}
+use Rattle.std.proofs.lemmas.Bool.{and_from, and_parts, both_ways}
 use Rattle.std.proofs.lemmas.Option.{slice_get_within, get_or_from_slice_get}
 use Rattle.std.specs.List.{position}
 use Rattle.model.specs.declared.relay.Relay.{Relay}
 use Rattle.model.specs.declared.relay.Relay.TheVariants.{Carrier}
 use Rattle.model.specs.Site.{Site}
 use Rattle.model.specs.Contact.{Reached, hears, rounds}
-use Rattle.model.specs.Relay.{Chain, LastRelay, RelayedBy, RelayOf}
+use Rattle.model.specs.Relay.{LastRelay, RelayedBy, RelayOf}
 use Rattle.model.proofs.Contact.{Marked, spread_at, rounds_rest, marked_iff_reached}
 use Rattle.model.proofs.Chains.{chain_of_round, round_of_chain}
 use Rattle.contact.specs.declared.marking.Marking.{Marking}
 use Rattle.contact.specs.Carrier.{find_place}
 use Rattle.contact.specs.Marking.{is_heard, is_relay, IsAfter}
-use Rattle.contact.proofs.Marks.{first_relay, heard_after}
+use Rattle.contact.proofs.Marks.{relays, first_relay, heard_after}
 
 module _ (s : Site) (c : List ℕ) (i p : ℕ) (inside : i < length c) (at : get_or c i 0 ≡ p) (apart : s.in_contact s.base p ≡ false) where
   -- A carrier that hears neither the base nor whom round k marks is not marked in the next.
@@ -21,24 +21,16 @@ module _ (s : Site) (c : List ℕ) (i p : ℕ) (inside : i < length c) (at : get
   unmarked_next k silent m = grind (arith, spread_at s c (rounds k s c) i inside)
 
   -- The first that is heard in a round is the last relay, if nobody was heard in the round before.
-  last_relay : (k j : ℕ) → hears s c (rounds k s c) p ≡ false → (get_or (rounds (suc k) s c) j false && s.in_contact (get_or c j 0) p) ≡ true
-      → ((h : ℕ) → h < j → (get_or (rounds (suc k) s c) h false && s.in_contact (get_or c h 0) p) ≡ false) → LastRelay s c i j
+  last_relay : (k j : ℕ) → hears s c (rounds k s c) p ≡ false → relays s c (suc k) j p ≡ true → ((h : ℕ) → h < j → relays s c (suc k) h p ≡ false) → LastRelay s c i j
   last_relay k j silent here lower =
       let (m, short, chain) = chain_of_round s c (suc k) j (and_parts _ _ here).0 in
       record {
         contacts = m;
         chain = chain;
         hears = rw at (and_parts _ _ here).1;
-        shortest = λ n other. omega (arith, longer n other);
-        lowest = λ h n l other t. omega (arith, longer_lower h n l other t);
+        shortest = λ n other. let late : n ≤ suc k → ⊥ = λ l. unmarked_next k silent (round_of_chain s c other (suc k) l) in grind (arith, late);
+        lowest = λ h n l other t. let late : n ≤ suc k → ⊥ = λ b. both_ways _ (lower h l) (and_from _ _ (round_of_chain s c other (suc k) b) (rw (← at) t)) in grind (arith, late);
       }
-    where
-      longer : (n : ℕ) → Chain s c n i → suc k < n
-      longer n other = ⊎_elim (λ l. l) (λ l. absurd (unmarked_next k silent (round_of_chain s c other (suc k) l))) (cases_lt (suc k) n)
-
-      longer_lower : (h n : ℕ) → h < j → Chain s c n h → s.in_contact (get_or c h 0) (get_or c i 0) ≡ true → suc k < n
-      longer_lower h n l other t =
-          ⊎_elim (λ m. m) (λ m. absurd (both_ways _ (lower h l) (and_from _ _ (round_of_chain s c other (suc k) m) (rw (← at) t)))) (cases_lt (suc k) n)
 
   -- Who hears nobody after all the rounds is not reached.
   not_reached : hears s c (rounds (length c) s c) p ≡ false → Reached s c i → ⊥

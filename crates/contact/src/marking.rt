@@ -1,4 +1,4 @@
-//! Which places are marked, and how marks spread over a configuration.
+//! Which places are marked, and how marks spread over a configuration, round by round.
 
 ghost use Rattle.std.specs.Prelude.{◌≡◌, length, not, position};
 
@@ -16,7 +16,7 @@ pub(crate) struct Marking<'a, S> {
 impl<'a, S: Site> Marking<'a, S> {
     ghost use Rattle.contact.specs.Marking.{IsAfter, Spreads, is_heard, is_joining, is_marked, is_near, is_relay};
 
-    /// Nothing is marked.
+    /// The marking before the first round: nothing is marked.
     pub(crate) fn new(site: &'a S, configuration: &'a [usize]) -> Self
         ensures { IsAfter S.Site.meaning site.now configuration.now 0 result }
     {
@@ -27,7 +27,7 @@ impl<'a, S: Site> Marking<'a, S> {
         }
     }
 
-    /// All rounds: the places of the carriers that are reached are marked.
+    /// The marking after all rounds: of the carriers' places, those of the carriers that are reached are marked.
     pub(crate) fn reached(site: &'a S, configuration: &'a [usize]) -> Self
         ensures { IsAfter S.Site.meaning site.now configuration.now (length configuration.now) result }
     {
@@ -76,7 +76,7 @@ impl<'a, S: Site> Marking<'a, S> {
         p < MOST_PLACES && !self.is_marked(p) && self.is_near(p)
     }
 
-    /// One round: the carriers' places that are near are marked too. None if there is nothing to mark.
+    /// The marking one round later: the carriers' places that are near in this one are marked too. None if they all were already.
     pub(crate) fn spread(&self) -> Option<Self>
         ensures { Spreads S.Site.meaning self.now result }
     {
