@@ -12,7 +12,7 @@ use Rattle.model.specs.Contact.{hears, rounds}
 use Rattle.model.proofs.Tables.{same_everywhere}
 use Rattle.model.proofs.Contact.{spread_at, rounds_all_of, rounds_stay}
 use Rattle.contact.specs.declared.marking.Marking.{Marking}
-use Rattle.contact.specs.Marking.{is_marked, is_relay, is_heard, is_near, is_joining, IsAfter}
+use Rattle.contact.specs.Marking.{is_marked, is_relay, is_heard, is_near, IsAfter}
 
 -- The carrier at index i is marked after k rounds, and in contact with p.
 abbrev pub relays : Site → List ℕ → ℕ → ℕ → ℕ → Bool
@@ -22,12 +22,13 @@ relays s c k i p = get_or (rounds k s c) i false && s.in_contact (get_or c i 0) 
 abbrev pub reaches : Site → List ℕ → ℕ → ℕ → Bool
 reaches s c k p = s.in_contact s.base p || hears s c (rounds k s c) p
 
--- A round, as far as the first k carriers: no mark is lost, only places that are to be marked are marked, and those of the first k
--- carriers are.
+-- A round, as far as the first k carriers: no mark is lost, only places that are near are marked, and those of the first k carriers
+-- that are near are.
 pub record Pass {S : Type 0} (meaning : S → Site) (m : Marking S) (marks : List Bool) (k : ℕ) : Type 0 where
+  pub sized : length marks ≡ most_places
   pub kept : (p : ℕ) → is_marked m p ≡ true → get_or marks p false ≡ true
-  pub only : (p : ℕ) → get_or marks p false ≡ true → (is_marked m p || is_joining meaning m p) ≡ true
-  pub done : (i : ℕ) → i < k → is_joining meaning m (get_or m.configuration.now i 0) ≡ true → get_or marks (get_or m.configuration.now i 0) false ≡ true
+  pub only : (p : ℕ) → get_or marks p false ≡ true → (is_marked m p || is_near meaning m p) ≡ true
+  pub done : (i : ℕ) → i < k → get_or m.configuration.now i 0 < length marks → is_near meaning m (get_or m.configuration.now i 0) ≡ true → get_or marks (get_or m.configuration.now i 0) false ≡ true
 
 -- Two functions that agree at each element of a list.
 map_same : {A : Type 0} (f g : ℕ → A) (xs : List ℕ) → ((i : ℕ) → i < length xs → f (get_or xs i 0) ≡ g (get_or xs i 0)) → map f xs ≡ map g xs
@@ -81,9 +82,9 @@ module _ {S : Type 0} (meaning : S → Site) (site : S) (c : List ℕ) (k : ℕ)
         let p = get_or c i 0 in
         let here : get_or m.configuration.now i 0 ≡ p = ap (λ d. get_or d i 0) after.configuration_is in
         let own : i < n = omega (arith, ap length after.configuration_is) in
-        let done : is_joining meaning m p ≡ true → get_or marks p false ≡ true = λ j. cc (pass.done i own (cc)) in
+        let done : is_near meaning m p ≡ true → get_or marks p false ≡ true = λ near. let place = near_is_place meaning m lawful p near in cc (pass.done i own (omega arith) (cc)) in
         let grows : is_marked m p ≡ true → is_near meaning m p ≡ true = λ h. near_after p ∙ sym (spread_at (meaning site) c (rounds k (meaning site) c) i l) ∙ rounds_all_of (meaning site) c k i (sym (marked_is i l) ∙ h) in
-        grind (arith, pass.kept p, pass.only p, done, grows, near_is_place meaning m lawful p, near_after p)
+        grind (arith, pass.kept p, pass.only p, done, grows, near_after p)
 
     -- What a pass over all carriers makes is one round more.
     pub spreads : IsAfter meaning site c (k + 1) (record m { marks = marks })

@@ -26,10 +26,6 @@ is_heard meaning m p = list_any (λ q. is_relay meaning m q p) m.configuration.n
 abbrev pub is_near : {S : Type 0} → (S → Site) → Marking S → ℕ → Bool
 is_near meaning m p = (meaning m.site.now).in_contact (meaning m.site.now).base p || is_heard meaning m p
 
--- The place p is to be marked.
-abbrev pub is_joining : {S : Type 0} → (S → Site) → Marking S → ℕ → Bool
-is_joining meaning m p = nat_lt p most_places && not (is_marked m p) && is_near meaning m p
-
 -- The marking after k rounds, at this site and over this configuration.
 pub record IsAfter {S : Type 0} (meaning : S → Site) (site : S) (configuration : List ℕ) (k : ℕ) (m : Marking S) : Type 0 where
   pub site_is : m.site.now ≡ site

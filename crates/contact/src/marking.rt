@@ -14,7 +14,7 @@ pub(crate) struct Marking<'a, S> {
 }
 
 impl<'a, S: Site> Marking<'a, S> {
-    ghost use Rattle.contact.specs.Marking.{IsAfter, Spreads, is_heard, is_joining, is_marked, is_near, is_relay};
+    ghost use Rattle.contact.specs.Marking.{IsAfter, Spreads, is_heard, is_marked, is_near, is_relay};
 
     /// The marking before the first round: nothing is marked.
     pub(crate) fn new(site: &'a S, configuration: &'a [usize]) -> Self
@@ -69,20 +69,13 @@ impl<'a, S: Site> Marking<'a, S> {
         self.site.in_contact(self.site.base(), p) || self.is_heard(p)
     }
 
-    /// Is the place p to be marked: is it near, and not marked yet?
-    fn is_joining(&self, p: usize) -> bool
-        ensures { result ≡ is_joining S.Site.meaning self.now p }
-    {
-        p < MOST_PLACES && !self.is_marked(p) && self.is_near(p)
-    }
-
     /// The marking one round later: the carriers' places that are near in this one are marked too. None if they all were already.
     pub(crate) fn spread(&self) -> Option<Self>
         ensures { Spreads S.Site.meaning self.now result }
     {
         let mut marks = self.marks;
         for &p in self.configuration {
-            if self.is_joining(p) {
+            if marks.get(p) == Some(&false) && self.is_near(p) {
                 marks[p] = true;
             }
         }
