@@ -30,12 +30,12 @@ pub record Pass {S : Type 0} (meaning : S → Site) (m : Marking S) (marks : Lis
   pub only : (p : ℕ) → get_or marks p false ≡ true → (is_marked m p || is_near meaning m p) ≡ true
   pub done : (i : ℕ) → i < k → get_or m.configuration.now i 0 < length marks → is_near meaning m (get_or m.configuration.now i 0) ≡ true → get_or marks (get_or m.configuration.now i 0) false ≡ true
 
--- Two functions that agree at each element of a list.
+-- Two functions agree on a list if they agree at each of its elements.
 map_same : {A : Type 0} (f g : ℕ → A) (xs : List ℕ) → ((i : ℕ) → i < length xs → f (get_or xs i 0) ≡ g (get_or xs i 0)) → map f xs ≡ map g xs
 map_same f g [] same = refl
 map_same f g (x ∷ xs) same = cc (same 0 (omega arith), map_same f g xs (λ i l. same (suc i) (omega arith)))
 
--- An element passes a test if one is found that does.
+-- Some element passes a test if one that does is found.
 any_found : {X : Type 0} (test : X → Bool) (xs : List X) → list_any test xs ≡ is_some (position test xs)
 any_found test [] = refl
 any_found test (x ∷ xs) = grind (arith, common_steps, any_found test xs)
@@ -45,7 +45,7 @@ pub none_marked : (c : List ℕ) → map (λ p. get_or (replicate most_places fa
 none_marked [] = refl
 none_marked (q ∷ c) = cc (same_everywhere most_places false q, none_marked c)
 
--- Whom a marked carrier hears, by the definitions.
+-- Being heard by carriers at marked places, in the words of the definitions.
 heard_is : (s : Site) (marked : ℕ → Bool) (c : List ℕ) (p : ℕ) → list_any (λ q. marked q && s.in_contact q p) c ≡ hears s c (map marked c) p
 heard_is s marked [] p = refl
 heard_is s marked (q ∷ c) p = cc (heard_is s marked c p)
@@ -69,7 +69,7 @@ module _ {S : Type 0} (meaning : S → Site) (site : S) (c : List ℕ) (k : ℕ)
   pub marked_is : (i : ℕ) → i < length c → is_marked m (get_or c i 0) ≡ get_or (rounds k (meaning site) c) i false
   marked_is i l = cc (get_or-map (is_marked m) m.configuration.now i 0 false (omega (arith, ap length after.configuration_is)))
 
-  -- Whoever is heard is heard after that many rounds.
+  -- Who is heard, and what is near, after that many rounds.
   pub heard_after : (p : ℕ) → is_heard meaning m p ≡ hears (meaning site) c (rounds k (meaning site) c) p
   heard_after p = cc (heard_is (meaning m.site.now) (is_marked m) m.configuration.now p)
 
@@ -77,6 +77,7 @@ module _ {S : Type 0} (meaning : S → Site) (site : S) (c : List ℕ) (k : ℕ)
   near_after p = cc (heard_after p)
 
   module _ (lawful : Lawful (meaning m.site.now)) (marks : List Bool) (n : ℕ) (all : length m.configuration.now ≤ n) (pass : Pass meaning m marks n) where
+    -- What the next round marks.
     at : (i : ℕ) → i < length c → get_or marks (get_or c i 0) false ≡ reaches (meaning site) c k (get_or c i 0)
     at i l =
         let p = get_or c i 0 in
@@ -93,8 +94,8 @@ module _ {S : Type 0} (meaning : S → Site) (site : S) (c : List ℕ) (k : ℕ)
     -- Where it changes nothing, all rounds are made.
     pub rests : marks ≡ m.marks → k ≤ length c → IsAfter meaning site c (length c) m
     rests still l =
-        let rests : rounds (suc k) (meaning site) c ≡ rounds k (meaning site) c = sym (rw add-one at spreads.marked) ∙ ap (λ marks. map (λ p. get_or marks p false) m.configuration.now) still ∙ after.marked in
-        record { site_is = after.site_is; configuration_is = after.configuration_is; marked = after.marked ∙ sym (rounds_stay (meaning site) c k rests (length c) l) }
+        let same : rounds (suc k) (meaning site) c ≡ rounds k (meaning site) c = sym (rw add-one at spreads.marked) ∙ ap (λ marks. map (λ p. get_or marks p false) m.configuration.now) still ∙ after.marked in
+        record { site_is = after.site_is; configuration_is = after.configuration_is; marked = after.marked ∙ sym (rounds_stay (meaning site) c k same (length c) l) }
 
   -- The first carrier that is heard at p is the first of those that are marked after that many rounds.
   pub first_relay : (p j : ℕ) → position (λ q. is_relay meaning m q p) m.configuration.now ≡ Some j

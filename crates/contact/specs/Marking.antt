@@ -1,7 +1,6 @@
 -- Which places are marked, and how marks spread over a configuration.
-use Rattle.std.specs.Prelude.{◌≡◌, ℕ, ◌+◌, ◌≤◌, Bool, false, not, ◌&&◌, ◌||◌, List, map, length, Option, Some, None, nat_lt, slice_index_or}
+use Rattle.std.specs.Prelude.{◌≡◌, ℕ, ◌+◌, ◌≤◌, Bool, false, ◌&&◌, ◌||◌, List, map, length, Option, Some, None, slice_index_or}
 use Rattle.std.specs.List.{list_any}
-use Rattle.model.specs.Limits.{most_places}
 use Rattle.model.specs.Site.{Site}
 use Rattle.model.specs.Contact.{rounds}
 use Rattle.contact.specs.declared.marking.Marking.{Marking}
