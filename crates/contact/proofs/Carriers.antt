@@ -1,5 +1,5 @@
 -- Carriers by their number.
-use Rattle.std.proofs.Common.{◌≡◌, ℕ, zero, suc, ◌+◌, Bool, false, not, List, [], ◌∷◌, map, length, Some, None, refl, ap, ◌∙◌, arith}
+use Rattle.std.proofs.Common.{◌≡◌, ℕ, zero, suc, ◌+◌, Bool, false, not, List, [], ◌∷◌, map, length, Some, None, Option, refl, ap, ◌∙◌, arith}
 use Rattle.std.proofs.lemmas.List.{get_or_past}
 use Rattle.std.proofs.lemmas.Iterator.Adapters.{position_from-zero}
 use Rattle.std.proofs.lemmas.Option.{slice_get_within, slice_get_cases, get_or_from_slice_get}
@@ -30,5 +30,6 @@ module _ {S : Type 0} (meaning : S → Site) (site : S) (c : List ℕ) (m : Mark
   reached_is (suc i) p some = cc (get_or_from_slice_get c i p 0 some, marked_is meaning site c (length c) m after i (slice_get_within c i p some))
 
   -- After all rounds, the first that stands at no marked place is lost.
-  pub lost_is : option_map (λ i. i + 1) (position (λ p. not (is_marked m p)) m.configuration.now) ≡ lost (meaning site) c
-  lost_is = ap (option_map (λ i. i + 1)) (position_from-zero (λ p. not (is_marked m p)) m.configuration.now) ∙ first_is (is_marked m) m.configuration.now 0 ∙ ap (first_unmarked 1) after.marked
+  pub lost_is : (index : Option ℕ) → index ≡ position (λ p. not (is_marked m p)) m.configuration.now → option_map (λ i. i + 1) index ≡ lost (meaning site) c
+  lost_is index found =
+      ap (option_map (λ i. i + 1)) (found ∙ position_from-zero (λ p. not (is_marked m p)) m.configuration.now) ∙ first_is (is_marked m) m.configuration.now 0 ∙ ap (first_unmarked 1) after.marked

@@ -1,6 +1,6 @@
 -- Marks on places, and how they spread.
 use Rattle.std.proofs.Common.{◌≡◌, ℕ, suc, ◌+◌, ◌<◌, ◌≤◌, Bool, true, false, ◌&&◌, ◌||◌, List, [], ◌∷◌, map, length, get_or, replicate, is_some, Some, None, subst, sym, refl, ap, ◌∙◌, ⊎_elim, add-one, arith}
-use Rattle.std.proofs.lemmas.Bool.{and_parts, or_cases}
+use Rattle.std.proofs.lemmas.Bool.{and_parts, cases_lt, or_cases}
 use Rattle.std.proofs.lemmas.Grind.{common_steps}
 use Rattle.std.proofs.lemmas.List.{get_or-map}
 use Rattle.std.proofs.lemmas.List.Folds.{Any-from_list_any}
@@ -10,7 +10,7 @@ use Rattle.model.specs.Limits.{most_places}
 use Rattle.model.specs.Site.{Site, Lawful}
 use Rattle.model.specs.Contact.{hears, rounds}
 use Rattle.model.proofs.Tables.{same_everywhere}
-use Rattle.model.proofs.Contact.{spread_at, rounds_all_of, rounds_stay}
+use Rattle.model.proofs.Contact.{spread_at, rounds_all_of, rounds_rest, rounds_stay}
 use Rattle.contact.specs.declared.marking.Marking.{Marking}
 use Rattle.contact.specs.Marking.{is_marked, is_relay, is_heard, is_near, IsAfter}
 
@@ -92,10 +92,12 @@ module _ {S : Type 0} (meaning : S → Site) (site : S) (c : List ℕ) (k : ℕ)
     spreads = rw add-one record { site_is = after.site_is; configuration_is = after.configuration_is; marked = ap (map (λ p. get_or marks p false)) after.configuration_is ∙ map_same _ _ c at }
 
     -- Where it changes nothing, all rounds are made.
-    pub rests : marks ≡ m.marks → k ≤ length c → IsAfter meaning site c (length c) m
-    rests still l =
+    pub rests : marks ≡ m.marks → IsAfter meaning site c (length c) m
+    rests still =
         let same : rounds (suc k) (meaning site) c ≡ rounds k (meaning site) c = sym (rw add-one at spreads.marked) ∙ ap (λ marks. map (λ p. get_or marks p false) m.configuration.now) still ∙ after.marked in
-        record { site_is = after.site_is; configuration_is = after.configuration_is; marked = after.marked ∙ sym (rounds_stay (meaning site) c k same (length c) l) }
+        let last : rounds k (meaning site) c ≡ rounds (length c) (meaning site) c =
+        ⊎_elim (λ l. sym (rounds_stay (meaning site) c k same (length c) (omega arith))) (rounds_stay (meaning site) c (length c) (sym (rounds_rest (meaning site) c)) k) (cases_lt k (length c)) in
+        record { site_is = after.site_is; configuration_is = after.configuration_is; marked = after.marked ∙ last }
 
   -- The first carrier that is heard at p is the first of those that are marked after that many rounds.
   pub first_relay : (p j : ℕ) → position (λ q. is_relay meaning m q p) m.configuration.now ≡ Some j

@@ -1,5 +1,5 @@
 -- Which places are marked, and how marks spread over a configuration.
-use Rattle.std.specs.Prelude.{◌≡◌, ℕ, ◌+◌, ◌≤◌, Bool, false, ◌&&◌, ◌||◌, List, map, length, Option, Some, None, slice_index_or}
+use Rattle.std.specs.Prelude.{◌≡◌, ℕ, ◌+◌, Bool, false, ◌&&◌, ◌||◌, List, map, length, Option, Some, None, slice_index_or}
 use Rattle.std.specs.List.{list_any}
 use Rattle.model.specs.Site.{Site}
 use Rattle.model.specs.Contact.{rounds}
@@ -34,4 +34,4 @@ pub record IsAfter {S : Type 0} (meaning : S → Site) (site : S) (configuration
 -- What one round more makes of a marking after some rounds: the next, or nothing where it is already the one after all rounds.
 abbrev pub Spreads : {S : Type 0} → (S → Site) → Marking S → Option (Marking S) → Type 0
 Spreads {S} meaning m (Some next) = (site : S) (c : List ℕ) (k : ℕ) → IsAfter meaning site c k m → IsAfter meaning site c (k + 1) next
-Spreads {S} meaning m None = (site : S) (c : List ℕ) (k : ℕ) → k ≤ length c → IsAfter meaning site c k m → IsAfter meaning site c (length c) m
+Spreads {S} meaning m None = (site : S) (c : List ℕ) (k : ℕ) → IsAfter meaning site c k m → IsAfter meaning site c (length c) m

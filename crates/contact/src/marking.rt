@@ -33,9 +33,7 @@ impl<'a, S: Site> Marking<'a, S> {
     {
         let mut marking = Self::new(site, configuration);
         for _round in 0..configuration.len() {
-            let Some(next) = marking.spread() else {
-                return marking;
-            };
+            let Some(next) = marking.spread() else { break };
             marking = next;
         }
         marking

@@ -1,4 +1,4 @@
-use Rattle.std.proofs.Common.{sym, rules, arith}
+use Rattle.std.proofs.Common.{sym, rules}
 use Rattle.contact.proofs.Marks.{none_heard, unheard}
 use Rattle.contact.proofs.Relays.{relayed_by, not_relayed}
 use Rattle.contact.proofs.relay_of.Goals as goal
@@ -10,7 +10,7 @@ pub returns-in_err-marking : goal.returns-in_err-marking
 returns-in_err-marking g c =
     let site = c.args.site.now in
     let configuration = c.args.configuration.now in
-    let rest = c.in_err-marking.ensures site configuration c.loop-round._round (omega arith) c.loop-round.invariant.0 in
+    let rest = c.in_err-marking.ensures site configuration c.loop-round._round c.loop-round.invariant.0 in
     rw c.from_residual-in_err-marking.ensures
     (not_relayed g.S.Site.meaning site configuration c.args.carrier c.in_ok-place.place (search rules) (search rules) c.loop-round.marking rest c.loop-round.invariant.1)
 

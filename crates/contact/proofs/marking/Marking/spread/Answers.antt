@@ -5,11 +5,11 @@ use Rattle.contact.proofs.Marks.{spreads, rests}
 use Rattle.contact.proofs.marking.Marking.spread.Goals as goal
 
 pub returns-then-eq-2 : goal.returns-then-eq-2
-returns-then-eq-2 g c = λ site configuration k l after.
+returns-then-eq-2 g c = λ site configuration k after.
     let self = c.args.self.now in
     let marks = c.loop-p.marks in
     rests g.S.Site.meaning site configuration k self after (g.S.Site.lawful self.site.now) marks c.loop-p.p-index (omega arith) c.loop-p.invariant
-    ((slice_eq-Decides booleans_Decides marks self.marks true c.if-eq-2.ensures).0 refl) l
+    ((slice_eq-Decides booleans_Decides marks self.marks true c.if-eq-2.ensures).0 refl)
 
 pub returns-else-eq-2 : goal.returns-else-eq-2
 returns-else-eq-2 g c = λ site configuration k after.
