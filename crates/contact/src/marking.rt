@@ -67,7 +67,7 @@ impl<'a, S: Site> Marking<'a, S> {
         self.site.in_contact(self.site.base(), p) || self.is_heard(p)
     }
 
-    /// The marking one round later: the carriers' places that are near in this one are marked too. None if they all were already.
+    /// The marking one round later: the carriers' places that are near in this one are marked too. None if they all are already.
     pub(crate) fn spread(&self) -> Option<Self>
         ensures { Spreads S.Site.meaning self.now result }
     {
