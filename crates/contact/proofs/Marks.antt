@@ -52,7 +52,7 @@ heard_is s marked (q ∷ c) p = cc (heard_is s marked c p)
 
 module _ {S : Type 0} (meaning : S → Site) (m : Marking S) where
   -- Where nobody is found, nobody is heard.
-  pub unheard : (p : ℕ) → position (λ q. is_relay meaning m q p) m.configuration.now ≡ None → is_heard meaning m p ≡ false
+  pub unheard : (p : ℕ) → None ≡ position (λ q. is_relay meaning m q p) m.configuration.now → is_heard meaning m p ≡ false
   unheard p none = cc (any_found (λ q. is_relay meaning m q p) m.configuration.now)
 
   -- What is near is a place.
@@ -100,10 +100,10 @@ module _ {S : Type 0} (meaning : S → Site) (site : S) (c : List ℕ) (k : ℕ)
         record { site_is = after.site_is; configuration_is = after.configuration_is; marked = after.marked ∙ last }
 
   -- The first carrier that is heard at p is the first of those that are marked after that many rounds.
-  pub first_relay : (p j : ℕ) → position (λ q. is_relay meaning m q p) m.configuration.now ≡ Some j
+  pub first_relay : (p j : ℕ) → Some j ≡ position (λ q. is_relay meaning m q p) m.configuration.now
       → (relays (meaning site) c k j p ≡ true) × ((h : ℕ) → h < j → relays (meaning site) c k h p ≡ false)
   first_relay p j found =
-      let (l, here, lower) = position-Some (λ q. is_relay meaning m q p) c j 0 (subst (λ d. position (λ q. is_relay meaning m q p) d ≡ Some j) after.configuration_is found) in
+      let (l, here, lower) = position-Some (λ q. is_relay meaning m q p) c j 0 (subst (λ d. position (λ q. is_relay meaning m q p) d ≡ Some j) after.configuration_is (sym found)) in
       (sym (relay_at j l) ∙ here, λ h b. sym (relay_at h (omega arith)) ∙ lower h b)
     where
       relay_at : (i : ℕ) → i < length c → is_relay meaning m (get_or c i 0) p ≡ relays (meaning site) c k i p

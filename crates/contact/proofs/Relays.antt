@@ -44,7 +44,7 @@ by_number s c (suc i) p r some h = h i (slice_get_within c i p some) (get_or_fro
 module _ {S : Type 0} (meaning : S → Site) (site : S) (c : List ℕ) (n p : ℕ) (some : find_place c n ≡ Some p) (apart : (meaning site).in_contact (meaning site).base p ≡ false) where
   -- The first that is heard, where nobody was a round before.
   pub relayed_by : (k : ℕ) (before after : Marking S) → IsAfter meaning site c k before → is_heard meaning before p ≡ false → IsAfter meaning site c (k + 1) after
-      → (j : ℕ) → position (λ q. is_relay meaning after q p) after.configuration.now ≡ Some j → RelayOf (meaning site) c n (Some (Carrier (j + 1)))
+      → (j : ℕ) → Some j ≡ position (λ q. is_relay meaning after q p) after.configuration.now → RelayOf (meaning site) c n (Some (Carrier (j + 1)))
   relayed_by k before after was silent is j found =
       let (here, lower) = first_relay meaning site c (suc k) after (rw add-one at is) p j found in
       rw add-one (by_number (meaning site) c n p (Some (Carrier (suc j))) some (λ i inside at. (inside, last_relay (meaning site) c i p inside at apart k j (sym (heard_after meaning site c k before was p) ∙ silent) here lower)))

@@ -1,4 +1,4 @@
-use Rattle.std.proofs.Common.{sym, rules}
+use Rattle.std.proofs.Common.{rules}
 use Rattle.contact.proofs.Marks.{none_heard, unheard}
 use Rattle.contact.proofs.Relays.{relayed_by, not_relayed}
 use Rattle.contact.proofs.relay_of.Goals as goal
@@ -21,10 +21,10 @@ returns-in-Some g c =
     let k = c.loop-round._round in
     let next = c.in_ok-marking.marking in
     relayed_by g.S.Site.meaning site configuration c.args.carrier c.in_ok-place.place (search rules) (search rules) k c.loop-round.marking next
-    c.loop-round.invariant.0 c.loop-round.invariant.1 (c.in_ok-marking.ensures site configuration k c.loop-round.invariant.0) c.in-Some.i (sym c.in-Some.ensures)
+    c.loop-round.invariant.0 c.loop-round.invariant.1 (c.in_ok-marking.ensures site configuration k c.loop-round.invariant.0) c.in-Some.i c.in-Some.ensures
 
 pub loop-round-preserved : goal.loop-round-preserved
-loop-round-preserved g c = (search rules, unheard g.S.Site.meaning c.in_ok-marking.marking c.in_ok-place.place (sym c.in_default.ensures))
+loop-round-preserved g c = (search rules, unheard g.S.Site.meaning c.in_ok-marking.marking c.in_ok-place.place c.in_default.ensures)
 
 pub returns : goal.returns
 returns g c =
