@@ -1,108 +1,118 @@
 -- Marks on places, and how they spread.
-use Rattle.std.proofs.Common.{◌≡◌, ℕ, zero, suc, ◌+◌, ◌-◌, ◌<◌, ◌≤◌, Bool, true, false, not, ◌&&◌, ◌||◌, ltb, ◌⊎◌, List, [], ◌∷◌, length, get_or, drop, replicate, Some, sym, refl, ap, ◌∙◌, ⊎_elim, add-one, arith}
-use mathlib.Core.Bool.{false≢true}
-use Rattle.std.proofs.lemmas.List.{at_drop_more, ext_get_or, get_or-map, get_or_past, get_or-replicate, length-map, length-replicate}
-use Rattle.std.proofs.lemmas.Bool.{and_parts, lt-ltb, or_cases, or_from}
+use Rattle.std.proofs.Common.{◌≡◌, ℕ, suc, ◌+◌, ◌<◌, ◌≤◌, Bool, true, false, ◌&&◌, ◌||◌, List, [], ◌∷◌, map, length, get_or, replicate, is_some, Some, None, subst, sym, refl, ap, ◌∙◌, ⊎_elim, add-one, arith}
+use Rattle.std.proofs.lemmas.Bool.{and_parts, cases_lt, or_cases}
+use Rattle.std.proofs.lemmas.Grind.{common_steps}
+use Rattle.std.proofs.lemmas.List.{get_or-map}
+use Rattle.std.proofs.lemmas.List.Folds.{Any-from_list_any}
+use Rattle.std.proofs.lemmas.List.Quantifiers.{position-Some}
+use Rattle.std.specs.List.{list_any, position}
 use Rattle.model.specs.Limits.{most_places}
 use Rattle.model.specs.Site.{Site, Lawful}
-use Rattle.model.specs.Contact.{hears, rounds, reached_marks, is_reached, first_unmarked}
+use Rattle.model.specs.Contact.{hears, rounds}
 use Rattle.model.proofs.Tables.{same_everywhere}
-use Rattle.model.proofs.Contact.{length_rounds, spread_at, rounds_all_of, rounds_stay}
-use Rattle.contact.specs.Spreading.{marked, known, relays, heard, near, Round}
+use Rattle.model.proofs.Contact.{spread_at, rounds_all_of, rounds_rest, rounds_stay}
+use Rattle.contact.specs.declared.marking.Marking.{Marking}
+use Rattle.contact.specs.Marking.{is_marked, is_relay, is_heard, is_near, IsAfter}
 
--- The loops: what is left of the configuration, one carrier on.
+-- The carrier at index i is marked after k rounds, and in contact with p.
+abbrev pub relays : Site → List ℕ → ℕ → ℕ → ℕ → Bool
+relays s c k i p = get_or (rounds k s c) i false && s.in_contact (get_or c i 0) p
 
-module _ (s : Site) (marks : List Bool) (c : List ℕ) (p k : ℕ) (l : k < length c) where
-  heard_more : heard s marks (drop k c) p ≡ (relays s marks (get_or c k 0) p || heard s marks (drop (k + 1) c) p)
-  heard_more = at_drop_more (λ d. heard s marks d p) c k 0 l
+-- The base, or a carrier that is marked after k rounds, is in contact with p.
+abbrev pub reaches : Site → List ℕ → ℕ → ℕ → Bool
+reaches s c k p = s.in_contact s.base p || hears s c (rounds k s c) p
 
-  pub heard_here : true ≡ relays s marks (get_or c k 0) p → heard s marks (drop k c) p ≡ true
-  heard_here t = heard_more ∙ ap (λ b. b || heard s marks (drop (k + 1) c) p) (sym t)
+-- A round, as far as the first k carriers: no mark is lost, only places that are near are marked, and those of the first k carriers
+-- that are near are.
+pub record Pass {S : Type 0} (meaning : S → Site) (m : Marking S) (marks : List Bool) (k : ℕ) : Type 0 where
+  pub sized : length marks ≡ most_places
+  pub kept : (p : ℕ) → is_marked m p ≡ true → get_or marks p false ≡ true
+  pub only : (p : ℕ) → get_or marks p false ≡ true → (is_marked m p || is_near meaning m p) ≡ true
+  pub done : (i : ℕ) → i < k → get_or m.configuration.now i 0 < length marks → is_near meaning m (get_or m.configuration.now i 0) ≡ true → get_or marks (get_or m.configuration.now i 0) false ≡ true
 
-  pub heard_later : false ≡ relays s marks (get_or c k 0) p → heard s marks (drop k c) p ≡ heard s marks (drop (k + 1) c) p
-  heard_later t = heard_more ∙ ap (λ b. b || heard s marks (drop (k + 1) c) p) (sym t)
+-- Two functions agree on a list if they agree at each of its elements.
+map_same : {A : Type 0} (f g : ℕ → A) (xs : List ℕ) → ((i : ℕ) → i < length xs → f (get_or xs i 0) ≡ g (get_or xs i 0)) → map f xs ≡ map g xs
+map_same f g [] same = refl
+map_same f g (x ∷ xs) same = cc (same 0 (omega arith), map_same f g xs (λ i l. same (suc i) (omega arith)))
 
-module _ (marks : List Bool) (c : List ℕ) (n k : ℕ) (l : k < length c) where
-  first_more : first_unmarked n (known marks (drop k c)) ≡ first_unmarked n (marked marks (get_or c k 0) ∷ known marks (drop (k + 1) c))
-  first_more = at_drop_more (λ d. first_unmarked n (known marks d)) c k 0 l
+-- Some element passes a test if one that does is found.
+any_found : {X : Type 0} (test : X → Bool) (xs : List X) → list_any test xs ≡ is_some (position test xs)
+any_found test [] = refl
+any_found test (x ∷ xs) = grind (arith, common_steps, any_found test xs)
 
-  pub first_here : false ≡ marked marks (get_or c k 0) → first_unmarked n (known marks (drop k c)) ≡ Some n
-  first_here e = first_more ∙ ap (λ b. first_unmarked n (b ∷ known marks (drop (k + 1) c))) (sym e)
+-- Before the first round nobody is marked.
+pub none_marked : (c : List ℕ) → map (λ p. get_or (replicate most_places false) p false) c ≡ replicate (length c) false
+none_marked [] = refl
+none_marked (q ∷ c) = cc (same_everywhere most_places false q, none_marked c)
 
-  pub first_later : true ≡ marked marks (get_or c k 0) → first_unmarked n (known marks (drop k c)) ≡ first_unmarked (n + 1) (known marks (drop (k + 1) c))
-  first_later e =
-      first_more ∙ ap (λ b. first_unmarked n (b ∷ known marks (drop (k + 1) c))) (sym e)
-      ∙ ap (λ m. first_unmarked m (known marks (drop (k + 1) c))) (sym (add-one n))
+-- Being heard by carriers at marked places, in the words of the definitions.
+heard_is : (s : Site) (marked : ℕ → Bool) (c : List ℕ) (p : ℕ) → list_any (λ q. marked q && s.in_contact q p) c ≡ hears s c (map marked c) p
+heard_is s marked [] p = refl
+heard_is s marked (q ∷ c) p = cc (heard_is s marked c p)
 
--- What is heard is what a carrier that is known hears.
-pub heard_is : (s : Site) (marks : List Bool) (c : List ℕ) (p : ℕ) → heard s marks c p ≡ hears s c (known marks c) p
-heard_is s marks [] p = refl
-heard_is s marks (q ∷ c) p = ap (λ b. relays s marks q p || b) (heard_is s marks c p)
+module _ {S : Type 0} (meaning : S → Site) (m : Marking S) where
+  -- Where nobody is found, nobody is heard.
+  pub unheard : (p : ℕ) → None ≡ position (λ q. is_relay meaning m q p) m.configuration.now → is_heard meaning m p ≡ false
+  unheard p none = cc (any_found (λ q. is_relay meaning m q p) m.configuration.now)
 
--- Who hears nobody among the marked carriers.
-pub not_heard : (s : Site) (marks : List Bool) (c : List ℕ) (p : ℕ) → ((i : ℕ) → i < length c → relays s marks (get_or c i 0) p ≡ false) → heard s marks c p ≡ false
-not_heard s marks [] p h = refl
-not_heard s marks (q ∷ c) p h = or_from _ _ (h 0 (omega arith)) (not_heard s marks c p (λ i l. h (suc i) (omega arith)))
-
-module _ (s : Site) (c : List ℕ) where
   -- What is near is a place.
-  near_is_place : Lawful s → (marks : List Bool) (p : ℕ) → near s c marks p ≡ true → p < most_places
-  near_is_place lawful marks p h = ⊎_elim (place s.base) (heard_place c) (or_cases (s.in_contact s.base p) (heard s marks c p) h)
+  near_is_place : Lawful (meaning m.site.now) → (p : ℕ) → is_near meaning m p ≡ true → p < most_places
+  near_is_place lawful p h =
+      ⊎_elim (place (meaning m.site.now).base)
+      (λ heard. let (_, q, _, _, t) = Any-from_list_any (λ q. is_relay meaning m q p) m.configuration.now heard in place q (and_parts (is_marked m q) _ t).1) (or_cases _ _ h)
     where
-      place : (q : ℕ) → s.in_contact q p ≡ true → p < most_places
+      place : (q : ℕ) → (meaning m.site.now).in_contact q p ≡ true → p < most_places
       place q t = let l = lawful.contact_is_place p q (lawful.contact_both_ways p q ∙ t) in omega (arith, lawful.few_places)
 
-      heard_place : (d : List ℕ) → heard s marks d p ≡ true → p < most_places
-      heard_place [] h = absurd (false≢true h)
-      heard_place (q ∷ d) h = ⊎_elim (λ t. place q (and_parts _ _ t).1) (heard_place d) (or_cases (relays s marks q p) (heard s marks d p) h)
+module _ {S : Type 0} (meaning : S → Site) (site : S) (c : List ℕ) (k : ℕ) (m : Marking S) (after : IsAfter meaning site c k m) where
+  -- A carrier stands at a marked place if it is marked after that many rounds.
+  pub marked_is : (i : ℕ) → i < length c → is_marked m (get_or c i 0) ≡ get_or (rounds k (meaning site) c) i false
+  marked_is i l = cc (get_or-map (is_marked m) m.configuration.now i 0 false (omega (arith, ap length after.configuration_is)))
 
-  pub known_at : (marks : List Bool) (i : ℕ) → i < length c → get_or (known marks c) i false ≡ marked marks (get_or c i 0)
-  known_at marks i l = get_or-map (marked marks) c i 0 false l
+  -- Who is heard, and what is near, after that many rounds.
+  pub heard_after : (p : ℕ) → is_heard meaning m p ≡ hears (meaning site) c (rounds k (meaning site) c) p
+  heard_after p = cc (heard_is (meaning m.site.now) (is_marked m) m.configuration.now p)
 
-  -- A round takes the marks from one round of the definition to the next.
-  pub next_round : Lawful s → (before after : List Bool) (more : Bool) → Round s c before after more → (k : ℕ) → known before c ≡ rounds k s c → known after c ≡ rounds (suc k) s c
-  next_round lawful before after more round k same =
-      ext_get_or false (known after c) (rounds (suc k) s c) (length-map c _ ∙ sym (length_rounds s c (suc k)))
-      (λ i l. at i (rw length-map at l))
+  near_after : (p : ℕ) → is_near meaning m p ≡ reaches (meaning site) c k p
+  near_after p = cc (heard_after p)
+
+  module _ (lawful : Lawful (meaning m.site.now)) (marks : List Bool) (n : ℕ) (all : length m.configuration.now ≤ n) (pass : Pass meaning m marks n) where
+    -- What the next round marks.
+    at : (i : ℕ) → i < length c → get_or marks (get_or c i 0) false ≡ reaches (meaning site) c k (get_or c i 0)
+    at i l =
+        let p = get_or c i 0 in
+        let here : get_or m.configuration.now i 0 ≡ p = ap (λ d. get_or d i 0) after.configuration_is in
+        let own : i < n = omega (arith, ap length after.configuration_is) in
+        let done : is_near meaning m p ≡ true → get_or marks p false ≡ true = λ near. let place = near_is_place meaning m lawful p near in cc (pass.done i own (omega arith) (cc)) in
+        let grows : is_marked m p ≡ true → is_near meaning m p ≡ true = λ h. near_after p ∙ sym (spread_at (meaning site) c (rounds k (meaning site) c) i l) ∙ rounds_all_of (meaning site) c k i (sym (marked_is i l) ∙ h) in
+        grind (arith, pass.kept p, pass.only p, done, grows, near_after p)
+
+    -- What a pass over all carriers makes is one round more.
+    pub spreads : IsAfter meaning site c (k + 1) (record m { marks = marks })
+    spreads = rw add-one record { site_is = after.site_is; configuration_is = after.configuration_is; marked = ap (map (λ p. get_or marks p false)) after.configuration_is ∙ map_same _ _ c at }
+
+    -- Where it changes nothing, all rounds are made.
+    pub rests : marks ≡ m.marks → IsAfter meaning site c (length c) m
+    rests still =
+        let same : rounds (suc k) (meaning site) c ≡ rounds k (meaning site) c = sym (rw add-one at spreads.marked) ∙ ap (λ marks. map (λ p. get_or marks p false) m.configuration.now) still ∙ after.marked in
+        let last : rounds k (meaning site) c ≡ rounds (length c) (meaning site) c =
+        ⊎_elim (λ l. sym (rounds_stay (meaning site) c k same (length c) (omega arith))) (rounds_stay (meaning site) c (length c) (sym (rounds_rest (meaning site) c)) k) (cases_lt k (length c)) in
+        record { site_is = after.site_is; configuration_is = after.configuration_is; marked = after.marked ∙ last }
+
+  -- The first carrier that is heard at p is the first of those that are marked after that many rounds.
+  pub first_relay : (p j : ℕ) → Some j ≡ position (λ q. is_relay meaning m q p) m.configuration.now
+      → (relays (meaning site) c k j p ≡ true) × ((h : ℕ) → h < j → relays (meaning site) c k h p ≡ false)
+  first_relay p j found =
+      let (l, here, lower) = position-Some (λ q. is_relay meaning m q p) c j 0 (subst (λ d. position (λ q. is_relay meaning m q p) d ≡ Some j) after.configuration_is (sym found)) in
+      (sym (relay_at j l) ∙ here, λ h b. sym (relay_at h (omega arith)) ∙ lower h b)
     where
-      at : (i : ℕ) → i < length c → get_or (known after c) i false ≡ get_or (rounds (suc k) s c) i false
-      at i l =
-          let p = get_or c i 0 in
-          let here : marked before p ≡ get_or (rounds k s c) i false = sym (known_at before i l) ∙ ap (λ marks. get_or marks i false) same in
-          let next : get_or (rounds (suc k) s c) i false ≡ near s c before p =
-          spread_at s c (rounds k s c) i l ∙ ap (λ marks. s.in_contact s.base p || hears s c marks p) (sym same) ∙ ap (λ b. s.in_contact s.base p || b) (sym (heard_is s before c p)) in
-          known_at after i l
-          ∙ joined (marked before p) (marked after p) (near s c before p) (ltb p most_places) (round.kept p) (round.only p) (round.done i l)
-          (λ h. lt-ltb p most_places (near_is_place lawful before p h)) (λ h. sym next ∙ rounds_all_of s c k i (sym here ∙ h))
-          ∙ sym next
-        where
-          joined : (b a n t : Bool) → (b ≡ true → a ≡ true) → (a ≡ true → (b || (t && not b && n)) ≡ true) → ((t && not b && n) ≡ true → a ≡ true) → (n ≡ true → t ≡ true) → (b ≡ true → n ≡ true) → a ≡ n
-          joined b a n t kept only done place grows = grind arith
+      relay_at : (i : ℕ) → i < length c → is_relay meaning m (get_or c i 0) p ≡ relays (meaning site) c k i p
+      relay_at i l = cc (marked_is i l)
 
-  -- The same, as a loop counts.
-  pub round_more : Lawful s → (before after : List Bool) (more : Bool) → Round s c before after more → (k : ℕ) → known before c ≡ rounds k s c → known after c ≡ rounds (k + 1) s c
-  round_more lawful before after more round k same = rw add-one (next_round lawful before after more round k same)
-
-  -- Where a round adds nothing, all that are reached are marked.
-  pub at_rest : Lawful s → (before after : List Bool) → Round s c before after false → (k : ℕ) → known before c ≡ rounds k s c → k ≤ length c → known after c ≡ reached_marks s c
-  at_rest lawful before after round k same l =
-      let next = next_round lawful before after false round k same in
-      let rests : rounds (suc k) s c ≡ rounds k s c = sym next ∙ ap (λ marks. known marks c) (round.still refl) ∙ same in
-      next ∙ rests ∙ sym (rounds_stay s c k rests (length c) l)
-
-  -- No mark is no round.
-  pub no_round : known (replicate most_places false) c ≡ rounds 0 s c
-  no_round = ext_get_or false (known (replicate most_places false) c) (rounds 0 s c) (length-map c _ ∙ sym (length-replicate (length c) false))
-      (λ i l. let inside = rw length-map at l in known_at (replicate most_places false) i inside ∙ same_everywhere most_places false (get_or c i 0) ∙ sym (get_or-replicate (length c) i false false inside))
-
-  -- By carriers' numbers.
-
-  pub no_carrier : (k : ℕ) → (k < 1) ⊎ (length c < k) → false ≡ is_reached s c k
-  no_carrier zero h = refl
-  no_carrier (suc i) h = ⊎_elim (λ l. absurd (omega arith)) (λ l. sym (get_or_past (reached_marks s c) i false (omega (arith, length_rounds s c (length c))))) h
-
-  pub carrier_marked : (marks : List Bool) (k : ℕ) → known marks c ≡ reached_marks s c → 1 ≤ k → k ≤ length c → marked marks (get_or c (k - 1) 0) ≡ is_reached s c k
-  carrier_marked marks zero same some most = absurd (omega arith)
-  carrier_marked marks (suc i) same some most =
-      let index : suc i - 1 ≡ i = omega arith in
-      ap (λ j. marked marks (get_or c j 0)) index ∙ sym (known_at marks i (omega arith)) ∙ ap (λ m. get_or m i false) same
+-- Before the first round nobody is heard.
+pub none_heard : {S : Type 0} (meaning : S → Site) (site : S) (c : List ℕ) (m : Marking S) → IsAfter meaning site c 0 m → (p : ℕ) → is_heard meaning m p ≡ false
+none_heard meaning site c m after p = heard_after meaning site c 0 m after p ∙ nobody (meaning site) c p
+  where
+    nobody : (s : Site) (c : List ℕ) (p : ℕ) → hears s c (replicate (length c) false) p ≡ false
+    nobody s [] p = refl
+    nobody s (q ∷ c) p = nobody s c p

@@ -1,75 +1,54 @@
 -- The last relay of a carrier.
-use Rattle.std.proofs.Common.{◌≡◌, ℕ, zero, suc, ◌-◌, ◌<◌, ◌≤◌, Bool, true, false, ◌⊎◌, List, length, get_or, replicate, Some, None, Option, sym, refl, ap, ◌∙◌, subst, ⊎_elim, arith}
-use Rattle.std.proofs.lemmas.Bool.{and_from, and_left, and_parts, cases_lt, or_from, both_ways}
+use Rattle.std.proofs.Common.{◌≡◌, ℕ, zero, suc, ◌+◌, ◌<◌, ◌≤◌, true, false, List, length, get_or, Some, None, Option, sym, ◌∙◌, subst, add-one, arith}
+use Rattle.std.proofs.lemmas.Bool.{and_from, and_parts, both_ways}
+use Rattle.std.proofs.lemmas.Option.{slice_get_within, get_or_from_slice_get}
+use Rattle.std.specs.List.{position}
 use Rattle.model.specs.declared.relay.Relay.{Relay}
 use Rattle.model.specs.declared.relay.Relay.TheVariants.{Carrier}
-use Rattle.model.specs.Limits.{most_places}
 use Rattle.model.specs.Site.{Site}
-use Rattle.model.specs.Contact.{Reached, hears, rounds, reached_marks}
-use Rattle.model.specs.Relay.{Chain, LastRelay, RelayedBy, RelayOf}
-use Rattle.model.proofs.Tables.{same_everywhere}
-use Rattle.model.proofs.Contact.{Marked, reached_in, spread_at, rounds_rest, marked_iff_reached}
-use Rattle.model.proofs.Chains.{chain_in, chain_of_round, round_of_chain}
-use Rattle.contact.specs.Spreading.{marked, known, heard, FirstHeard}
-use Rattle.contact.proofs.Marks.{heard_is, not_heard, known_at}
+use Rattle.model.specs.Contact.{Reached, hears, rounds}
+use Rattle.model.specs.Relay.{LastRelay, RelayedBy, RelayOf}
+use Rattle.model.proofs.Contact.{Marked, spread_at, rounds_rest, marked_iff_reached}
+use Rattle.model.proofs.Chains.{chain_of_round, round_of_chain}
+use Rattle.contact.specs.declared.marking.Marking.{Marking}
+use Rattle.contact.specs.Carrier.{find_place}
+use Rattle.contact.specs.Marking.{is_heard, is_relay, IsAfter}
+use Rattle.contact.proofs.Marks.{relays, first_relay, heard_after}
 
--- Before the first round nobody is heard.
-pub nobody_heard : (s : Site) (c : List ℕ) (p : ℕ) → heard s (replicate most_places false) c p ≡ false
-nobody_heard s c p = not_heard s (replicate most_places false) c p (λ i l. and_left _ _ (same_everywhere most_places false (get_or c i 0)))
-
--- A place that is asked of the base, and is not in contact.
-pub not_straight : (s : Site) (base p : ℕ) → base ≡ s.base → false ≡ s.in_contact base p → s.in_contact s.base p ≡ false
-not_straight s base p is no_contact = ap (λ b. s.in_contact b p) (sym is) ∙ sym no_contact
-
-module _ (s : Site) (c : List ℕ) (i : ℕ) (inside : i < length c) (apart : s.in_contact s.base (get_or c i 0) ≡ false) where
+module _ (s : Site) (c : List ℕ) (i p : ℕ) (inside : i < length c) (at : get_or c i 0 ≡ p) (apart : s.in_contact s.base p ≡ false) where
   -- A carrier that hears neither the base nor whom round k marks is not marked in the next.
-  unmarked_next : (marks : List Bool) (k : ℕ) → known marks c ≡ rounds k s c → heard s marks c (get_or c i 0) ≡ false → Marked (rounds (suc k) s c) i → ⊥
-  unmarked_next marks k same silent m = both_ways _ (or_from _ _ apart quiet) (sym (spread_at s c (rounds k s c) i inside) ∙ m)
-    where
-      quiet : hears s c (rounds k s c) (get_or c i 0) ≡ false
-      quiet = ap (λ known. hears s c known (get_or c i 0)) (sym same) ∙ sym (heard_is s marks c (get_or c i 0)) ∙ silent
+  unmarked_next : (k : ℕ) → hears s c (rounds k s c) p ≡ false → Marked (rounds (suc k) s c) i → ⊥
+  unmarked_next k silent m = grind (arith, spread_at s c (rounds k s c) i inside)
 
   -- The first that is heard in a round is the last relay, if nobody was heard in the round before.
-  last_relay : (before after : List Bool) (k j : ℕ) → known before c ≡ rounds k s c → heard s before c (get_or c i 0) ≡ false → known after c ≡ rounds (suc k) s c
-      → FirstHeard s c after (get_or c i 0) (Some (suc j)) → LastRelay s c i j
-  last_relay before after k j was silent is (in_list, heard_now, none_lower) =
-      let (m, short, chain) = chain_of_round s c (suc k) j (marked_round j in_list (and_parts _ _ heard_now).0) in
+  last_relay : (k j : ℕ) → hears s c (rounds k s c) p ≡ false → relays s c (suc k) j p ≡ true → ((h : ℕ) → h < j → relays s c (suc k) h p ≡ false) → LastRelay s c i j
+  last_relay k j silent here lower =
+      let (m, short, chain) = chain_of_round s c (suc k) j (and_parts _ _ here).0 in
       record {
         contacts = m;
         chain = chain;
-        hears = (and_parts _ _ heard_now).1;
-        shortest = λ n other. omega (arith, longer n other);
-        lowest = λ h n l other t. omega (arith, longer_lower h n l other t);
+        hears = rw at (and_parts _ _ here).1;
+        shortest = λ n other. let late : n ≤ suc k → ⊥ = λ l. unmarked_next k silent (round_of_chain s c other (suc k) l) in grind (arith, late);
+        lowest = λ h n l other t. let late : n ≤ suc k → ⊥ = λ b. both_ways _ (lower h l) (and_from _ _ (round_of_chain s c other (suc k) b) (rw (← at) t)) in grind (arith, late);
       }
-    where
-      marked_round : (h : ℕ) → h < length c → marked after (get_or c h 0) ≡ true → Marked (rounds (suc k) s c) h
-      marked_round h l t = ap (λ marks. get_or marks h false) (sym is) ∙ known_at s c after h l ∙ t
-
-      longer : (n : ℕ) → Chain s c n i → suc k < n
-      longer n other = ⊎_elim (λ l. l) (λ l. absurd (unmarked_next before k was silent (round_of_chain s c other (suc k) l))) (cases_lt (suc k) n)
-
-      longer_lower : (h n : ℕ) → h < j → Chain s c n h → s.in_contact (get_or c h 0) (get_or c i 0) ≡ true → suc k < n
-      longer_lower h n l other t =
-          ⊎_elim (λ m. m) (λ m. absurd (both_ways _ (none_lower h l) (and_from _ _ (marked_after (chain_in s c other) (round_of_chain s c other (suc k) m)) t))) (cases_lt (suc k) n)
-        where
-          marked_after : h < length c → Marked (rounds (suc k) s c) h → marked after (get_or c h 0) ≡ true
-          marked_after inside m = sym (known_at s c after h inside) ∙ ap (λ marks. get_or marks h false) is ∙ m
-
-  pub relayed_by : (before after : List Bool) (k j : ℕ) → known before c ≡ rounds k s c → heard s before c (get_or c i 0) ≡ false → known after c ≡ rounds (suc k) s c
-      → FirstHeard s c after (get_or c i 0) (Some j) → RelayedBy s c i (Some (Carrier j))
-  relayed_by before after k zero was silent is first = absurd first
-  relayed_by before after k (suc j) was silent is first = (inside, last_relay before after k j was silent is first)
 
   -- Who hears nobody after all the rounds is not reached.
-  pub not_reached : (marks : List Bool) → known marks c ≡ reached_marks s c → heard s marks c (get_or c i 0) ≡ false → Reached s c i → ⊥
-  not_reached marks same silent r = unmarked_next marks (length c) same silent (subst (λ all. Marked all i) (rounds_rest s c) ((marked_iff_reached s c i).1 r))
+  not_reached : hears s c (rounds (length c) s c) p ≡ false → Reached s c i → ⊥
+  not_reached silent r = unmarked_next (length c) silent (subst (λ all. Marked all i) (rounds_rest s c) ((marked_iff_reached s c i).1 r))
 
--- By carriers' numbers.
+-- By a carrier's number: what holds at the index of whoever stands there.
+by_number : (s : Site) (c : List ℕ) (n p : ℕ) (r : Option Relay) → find_place c n ≡ Some p → ((i : ℕ) → i < length c → get_or c i 0 ≡ p → RelayedBy s c i r) → RelayOf s c n r
+by_number s c zero p r some h = absurd (cc)
+by_number s c (suc i) p r some h = h i (slice_get_within c i p some) (get_or_from_slice_get c i p 0 some)
 
-pub by_number : (s : Site) (c : List ℕ) (k : ℕ) (r : Option Relay) → 1 ≤ k → RelayedBy s c (k - 1) r → RelayOf s c k r
-by_number s c zero r some h = absurd (omega arith)
-by_number s c (suc i) r some h = let index : suc i - 1 ≡ i = omega arith in subst (λ j. RelayedBy s c j r) index h
+module _ {S : Type 0} (meaning : S → Site) (site : S) (c : List ℕ) (n p : ℕ) (some : find_place c n ≡ Some p) (apart : (meaning site).in_contact (meaning site).base p ≡ false) where
+  -- The first that is heard, where nobody was a round before.
+  pub relayed_by : (k : ℕ) (before after : Marking S) → IsAfter meaning site c k before → is_heard meaning before p ≡ false → IsAfter meaning site c (k + 1) after
+      → (j : ℕ) → Some j ≡ position (λ q. is_relay meaning after q p) after.configuration.now → RelayOf (meaning site) c n (Some (Carrier (j + 1)))
+  relayed_by k before after was silent is j found =
+      let (here, lower) = first_relay meaning site c (suc k) after (rw add-one at is) p j found in
+      rw add-one (by_number (meaning site) c n p (Some (Carrier (suc j))) some (λ i inside at. (inside, last_relay (meaning site) c i p inside at apart k j (sym (heard_after meaning site c k before was p) ∙ silent) here lower)))
 
-pub no_such_carrier : (s : Site) (c : List ℕ) (k : ℕ) → (k < 1) ⊎ (length c < k) → RelayOf s c k None
-no_such_carrier s c zero h = refl
-no_such_carrier s c (suc i) h = λ r. ⊎_elim (λ l. omega arith) (λ l. omega (arith, reached_in s c r)) h
+  -- Nobody, where nobody is heard after all rounds.
+  pub not_relayed : (m : Marking S) → IsAfter meaning site c (length c) m → is_heard meaning m p ≡ false → RelayOf (meaning site) c n None
+  not_relayed m after silent = by_number (meaning site) c n p None some (λ i inside at. not_reached (meaning site) c i p inside at apart (sym (heard_after meaning site c (length c) m after p) ∙ silent))

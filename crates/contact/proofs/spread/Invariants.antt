@@ -1,7 +1,0 @@
-use Rattle.std.proofs.Common.{◌≡◌, length}
-use Rattle.model.specs.Limits.{most_places}
-use Rattle.contact.specs.Spreading.{Pass}
-use Rattle.contact.proofs.spread.Given as goal
-
-abbrev pub invariant-loop-p : goal.invariant-loop-p
-invariant-loop-p g l = Pass (g.S.Site.meaning l.site) l.configuration l.before l.marks l.more l.p-index × (length l.marks ≡ most_places)

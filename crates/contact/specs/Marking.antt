@@ -1,0 +1,37 @@
+-- Which places are marked, and how marks spread over a configuration.
+use Rattle.std.specs.Prelude.{◌≡◌, ℕ, ◌+◌, Bool, false, ◌&&◌, ◌||◌, List, map, length, Option, Some, None, slice_index_or}
+use Rattle.std.specs.List.{list_any}
+use Rattle.model.specs.Site.{Site}
+use Rattle.model.specs.Contact.{rounds}
+use Rattle.contact.specs.declared.marking.Marking.{Marking}
+
+-- The place p is marked.
+abbrev pub is_marked : {S : Type 0} → Marking S → ℕ → Bool
+is_marked m p = slice_index_or m.marks p false
+
+-- Which carriers stand at marked places.
+abbrev pub carriers_marked : {S : Type 0} → Marking S → List Bool
+carriers_marked m = map (is_marked m) m.configuration.now
+
+-- The place q is marked, and in contact with p.
+abbrev pub is_relay : {S : Type 0} → (S → Site) → Marking S → ℕ → ℕ → Bool
+is_relay meaning m q p = is_marked m q && (meaning m.site.now).in_contact q p
+
+-- The marked place of some carrier is in contact with p.
+abbrev pub is_heard : {S : Type 0} → (S → Site) → Marking S → ℕ → Bool
+is_heard meaning m p = list_any (λ q. is_relay meaning m q p) m.configuration.now
+
+-- The place p is in contact with the base, or with the marked place of a carrier.
+abbrev pub is_near : {S : Type 0} → (S → Site) → Marking S → ℕ → Bool
+is_near meaning m p = (meaning m.site.now).in_contact (meaning m.site.now).base p || is_heard meaning m p
+
+-- The marking after k rounds, at this site and over this configuration.
+pub record IsAfter {S : Type 0} (meaning : S → Site) (site : S) (configuration : List ℕ) (k : ℕ) (m : Marking S) : Type 0 where
+  pub site_is : m.site.now ≡ site
+  pub configuration_is : m.configuration.now ≡ configuration
+  pub marked : carriers_marked m ≡ rounds k (meaning site) configuration
+
+-- What one round more makes of a marking after some rounds: the next, or nothing where it is already the one after all rounds.
+abbrev pub Spreads : {S : Type 0} → (S → Site) → Marking S → Option (Marking S) → Type 0
+Spreads {S} meaning m (Some next) = (site : S) (c : List ℕ) (k : ℕ) → IsAfter meaning site c k m → IsAfter meaning site c (k + 1) next
+Spreads {S} meaning m None = (site : S) (c : List ℕ) (k : ℕ) → IsAfter meaning site c k m → IsAfter meaning site c (length c) m
