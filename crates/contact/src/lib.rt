@@ -20,6 +20,8 @@ fn find_place(configuration: &[usize], carrier: usize) -> Option<usize>
     configuration.get(carrier.checked_sub(1)?).copied()
 }
 
+// The calls take a site and a slice, as the definitions do: a struct of both would have to be made before each of them.
+
 /// Is the carrier of this number, counted from 1, reached from the base? A number that is no carrier's gets no.
 pub fn is_reached<S: Site>(site: &S, configuration: &[usize], carrier: usize) -> bool
     ensures { result ≡ is_reached (S.Site.meaning site.now) configuration.now carrier }

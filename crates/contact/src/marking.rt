@@ -10,6 +10,7 @@ use site::Site;
 pub(crate) struct Marking<'a, S> {
     site: &'a S,
     configuration: &'a [usize],
+    // An array, and no set on the heap: nothing here can fail for want of memory.
     marks: [bool; MOST_PLACES],
 }
 

@@ -74,6 +74,7 @@ impl Refusal {
     }
 }
 
+// Written out: a derived Display would have "refused by" and the number once for each case.
 impl fmt::Display for Refusal {
     fn fmt<W: fmt::Write>(&self, f: &mut fmt::Formatter<W>) -> fmt::Result {
         let number = self.number();

@@ -15,6 +15,7 @@ pub struct Hall {
     columns: usize,
     radius: usize,
     base: usize,
+    // An array, and no set on the heap: nothing here can fail for want of memory.
     walls: [bool; MOST_PLACES],
     ghost long: { rows ≤ most_rows },
     ghost wide: { columns ≤ most_columns },

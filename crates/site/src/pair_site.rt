@@ -10,6 +10,7 @@ use model::refusal::Refusal;
 /// Which pairs of places are listed under one word. A pair stands in the row of its lower place and the column of its higher one.
 #[derive(Drop)]
 struct PairTable {
+    // An array, and no set on the heap: nothing here can fail for want of memory.
     marks: [[bool; MOST_PLACES]; MOST_PLACES],
 }
 
@@ -34,6 +35,8 @@ impl PairTable {
             .and_then(|row| row.get(p.max(q)))
             .is_some_and(|mark| *mark)
     }
+
+    // The number of places is given to the next two, and not kept here: a pair site would have it three times.
 
     /// Is p joined with q, in a site of so many places: are they the same place, or a listed pair?
     fn joins(&self, places: usize, p: usize, q: usize) -> bool
@@ -92,6 +95,8 @@ impl PairSite {
             contacts: PairTable::new(),
         })
     }
+
+    // Two calls, and not one that is told which table: it would be no shorter, and who calls it would have one argument more.
 
     /// Lists a move between p and q. A refusal changes nothing.
     pub fn add_move(&mut self, p: usize, q: usize) -> Result<(), Refusal>

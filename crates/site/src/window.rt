@@ -11,6 +11,7 @@ use model::refusal::Refusal;
 #[derive(Drop)]
 pub struct Window<S: Site> {
     below: S,
+    // An array, and no map on the heap: nothing here can fail for want of memory.
     readings: [Option<i16>; MOST_PLACES],
 }
 
