@@ -57,6 +57,7 @@ pub fn relay_of<S: Site>(site: &S, configuration: &[usize], carrier: usize) -> O
         return Some(Relay::Base);
     }
     let mut marking = Marking::new(site, configuration);
+    // As many rounds as there are carriers are enough, as in `Marking::reached`.
     for _round in 0..configuration.len() {
         marking = marking.spread()?;
         if let Some(i) = marking.first_heard(place) {

@@ -4,6 +4,7 @@ use crate::item::Condition;
 /// How a node hangs on another: its parent's number, and the condition that it has besides those of its parent.
 #[derive(Clone, Copy, PartialEq, Eq, Debug)]
 pub struct Branch {
+    // A number, and no Box: the table of nodes has a fixed size and lies in one piece, and a node is copied.
     pub parent: usize,
     pub condition: Condition,
 }
