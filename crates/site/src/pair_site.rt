@@ -134,6 +134,8 @@ impl Site for PairSite {
         p < self.places
     }
 
+    // The trait asks two questions, and each has its table, as the two calls above.
+
     fn has_move(&self, p: usize, q: usize) -> bool {
         self.moves.joins(self.places, p, q)
     }
