@@ -1,11 +1,11 @@
 -- Where an execution is out of contact, every plan meets a listed item there.
-use Rattle.std.proofs.Common.{◌≡◌, ℕ, suc, ◌<◌, ◌≤◌, true, false, List, ◌∷◌, length, get_or, sym, ◌∙◌, subst, ⊎_elim, arith}
+use Rattle.std.proofs.Common.{◌≡◌, ℕ, suc, ◌<◌, ◌≤◌, true, false, List, ◌∷◌, length, get_or, sym, ◌∙◌, ⊎_elim, arith}
 use mathlib.Core.List.Memᴰ
 use mathlib.Core.List.{Memᴰ}
 use Rattle.std.proofs.lemmas.Bool.{both_ways}
 use Rattle.model.specs.declared.item.Condition.{Condition}
 use Rattle.model.specs.declared.item.Item.{Item}
-use Rattle.model.specs.Contact.{place_of, is_connected}
+use Rattle.model.specs.Contact.{is_connected}
 use Rattle.model.specs.Item.{Meets, at_time}
 use Rattle.model.specs.Execution.{latest, at_moment}
 use Rattle.model.specs.Path.{TimedPath}
@@ -57,10 +57,10 @@ pub child_kept : (p : Problem) (q : Timely p) (cs : List Condition) (m : ℕ) (i
 child_kept p q cs m it kept meets c among i inside name = ⊎_elim new old (Memᴰ.cases_cons among)
   where
     itself : it.carrier ≡ suc i → Meets it.demand it.place (place q i m)
-    itself names = subst (λ a. Meets it.demand it.place (place_of (waiting q m) a)) names meets
+    itself names = rw names at meets
 
     new : c ≡ at_time m it → Meets c.item.demand c.item.place (place q i c.moment)
-    new e = subst (λ (d : Condition). d.item.carrier ≡ suc i → Meets d.item.demand d.item.place (place q i d.moment)) (sym e) itself name
+    new e = rw e (itself (rw e at name))
 
     old : Memᴰ c cs → Meets c.item.demand c.item.place (place q i c.moment)
     old h = kept c h i inside name

@@ -48,7 +48,7 @@ pub ready_below : {p : Problem} {Left : Timely p → Type 0} {st : State} → Re
 ready_below {p} {Left} {st} r = below_all p st.floor (omega (arith, r.low)) r.bounds
 
 pub still_running : {p : Problem} {st : State} → st.outcome ≡ Running → Ready p NoneLeft st → Good p st
-still_running {p} {st} run r = record { floor_holds = ready_below r; standing = subst (Standing p st) (sym run) r; each_put = subst (EachNodeWasPut st) (sym run) r.counted }
+still_running {p} {st} run r = record { floor_holds = ready_below r; standing = subst (Standing p st) (sym run) r; each_put = rw run r.counted }
 
 pub while_running : {p : Problem} {st : State} → st.outcome ≡ Running → Good p st → Ready p NoneLeft st
 while_running {p} {st} run g = subst (Standing p st) run g.standing

@@ -11,7 +11,7 @@ use Rattle.model.specs.declared.refusal.Refusal.{Refusal}
 use Rattle.model.specs.Begin.{begin}
 use Rattle.model.specs.Calls.{answer, last_paths, paths_or_none, plan_of, shown, refusal}
 use Rattle.model.specs.Execution.{latest, at_moment}
-use Rattle.model.specs.Guarantee.{Guarantee, Guaranteed, NoPutIsRefused, EachNodeWasPut}
+use Rattle.model.specs.Guarantee.{Guarantee, Guaranteed, NoPutIsRefused}
 use Rattle.model.specs.Limits.{most_nodes}
 use Rattle.model.specs.Nodes.{conditions_of}
 use Rattle.model.specs.Plan.{IsPlan, NoPlanExists}
@@ -51,8 +51,7 @@ module _ (p : Problem) (lawful : Lawful p.site) (st : State) (good : Good p st) 
 
   its_plan : IsPlan p.site p.task steps (plan_of p st)
   its_plan =
-      subst (λ n. IsPlan p.site p.task n (plan_of p st)) (sym find.arrive)
-      (subst (λ x. IsPlan p.site p.task (latest find.paths) (at_moment x)) (sym paths_are) (unbroken_is_plan p lawful cs find.paths find.crew ex find.in_contact))
+      rw find.arrive (subst (λ x. IsPlan p.site p.task (latest find.paths) (at_moment x)) (sym paths_are) (unbroken_is_plan p lawful cs find.paths find.crew ex find.in_contact))
 
   shown_is_plan : IsPlan p.site p.task steps (shown p st)
   shown_is_plan = plan_alike (λ m h. sym (shown_is p st steps is m h (its_plan.everyone m h))) its_plan
@@ -66,7 +65,7 @@ module _ (p : Problem) (lawful : Lawful p.site) (laws : RuleLaws p.rule) (start 
   asked st calls = turns_asked calls (answers_to p st calls)
 
   course_of : (st : State) → Good p st → (calls : List Call) → Course p (asked st calls) st (after_all p st calls)
-  course_of st good calls = subst (Course p (asked st calls) st) (sym (calls_are_turns p st calls)) (turns_course p lawful laws (asked st calls) st good)
+  course_of st good calls = rw (calls_are_turns p st calls) (turns_course p lawful laws (asked st calls) st good)
 
   pub good_after : (calls : List Call) → Good p (at_end calls)
   good_after calls = (course_of start start_good calls).good
@@ -82,7 +81,7 @@ module _ (p : Problem) (lawful : Lawful p.site) (laws : RuleLaws p.rule) (start 
 
   none_true : (calls : List Call) → (at_end calls).outcome ≡ NoPlan → NoPlanExists p.site p.task
   none_true calls is steps plan in_time h =
-      let floor : (at_end calls).floor ≡ suc p.task.horizon = subst (Standing p (at_end calls)) is (good_after calls).standing in
+      let floor : (at_end calls).floor ≡ suc p.task.horizon = rw is at (good_after calls).standing in
       let low = (good_after calls).floor_holds steps plan h in
       omega arith
 
@@ -98,7 +97,7 @@ module _ (p : Problem) (lawful : Lawful p.site) (laws : RuleLaws p.rule) (start 
   in_its_turn : (calls sooner : List Call) (call : Call) (later : List Call) → sooner ++ (call ∷ later) ≡ calls
       → slice_get (answers_to p start calls) (length sooner) ≡ Some (answer p (at_end sooner) call)
   in_its_turn calls sooner call later e =
-      subst (λ cs. slice_get (answers_to p start cs) (length sooner) ≡ Some (answer p (at_end sooner) call)) e (answer_in_turn p start sooner call later)
+      rw (← e) (answer_in_turn p start sooner call later)
 
   refused_exactly : (calls sooner : List Call) (call : Call) (later : List Call) (r : Refusal) → sooner ++ (call ∷ later) ≡ calls
       → (slice_get (answers_to p start calls) (length sooner) ≡ Some (Err r)) ↔ (refusal p (at_end sooner) call ≡ Some r)
@@ -114,16 +113,15 @@ module _ (p : Problem) (lawful : Lawful p.site) (laws : RuleLaws p.rule) (start 
     found_is_least = λ n is steps plan h. let low = (good_after calls).floor_holds steps plan h in omega (arith, steps_are_floor p lawful (at_end calls) (good_after calls) n is);
     none_is_true = none_true calls;
     none_is_said = none_said calls (at_end calls).outcome refl;
-    full_is_full = λ is. subst (Standing p (at_end calls)) is (good_after calls).standing;
+    full_is_full = λ is. rw is at (good_after calls).standing;
     floor_holds = (good_after calls).floor_holds;
     floor_never_falls = λ sooner later first then e run.
-        subst (λ cs. then.floor ≤ (at_end cs).floor) e (subst (λ st. st.floor ≤ (at_end (sooner ++ later)).floor) (sym (run_ends p run)) (never_falls sooner later));
+        rw (← e, run_ends p run) (never_falls sooner later);
     stops = stops_in_time new calls;
     turns_are_those_asked_for = calls_are_turns p start calls;
     every_call_is_answered = answers_length p start calls;
     refused_where_due = λ sooner call later first then r e run.
-        subst (λ st. (slice_get (answers_to p start calls) (length sooner) ≡ Some (Err r)) ↔ (refusal p st call ≡ Some r)) (sym (run_ends p run))
-        (refused_exactly calls sooner call later r e);
+        rw (run_ends p run) (refused_exactly calls sooner call later r e);
     refused_alters_nothing = λ sooner call later first then r e run h. refused_leaves p then call r h;
     answered_as_defined = λ sooner call later first then e run h.
         in_its_turn calls sooner call later e ∙ ap (λ st. Some (answer p st call)) (sym (run_ends p run)) ∙ ap Some (accepted_answers p then call h);
@@ -131,7 +129,7 @@ module _ (p : Problem) (lawful : Lawful p.site) (laws : RuleLaws p.rule) (start 
 
   pub guarantee : start.turns ≡ 0 → (calls : List Call) (answers : List (Result Answer Refusal)) (now : State) → Run p start calls answers now → Guarantee p start calls answers now
   guarantee new calls answers now run =
-      subst (λ l. Guarantee p start calls l now) (sym (run_answers p run)) (subst (Guarantee p start calls (answers_to p start calls)) (sym (run_ends p run)) (guarantee_of new calls))
+      rw (run_answers p run, run_ends p run) (guarantee_of new calls)
 
 pub guaranteed : Guaranteed
 guaranteed p pairs room calls answers now lawful laws run =
@@ -139,4 +137,4 @@ guaranteed p pairs room calls answers now lawful laws run =
 
 pub no_put_is_refused : NoPutIsRefused
 no_put_is_refused p pairs room calls answers now lawful laws run =
-    subst (λ st. EachNodeWasPut st st.outcome) (sym (run_ends p run)) (good_after p lawful laws (begin p pairs room) (begin_good p lawful pairs room) calls).each_put
+    rw (run_ends p run) (good_after p lawful laws (begin p pairs room) (begin_good p lawful pairs room) calls).each_put

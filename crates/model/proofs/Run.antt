@@ -1,5 +1,5 @@
 -- Every list of calls has one run; runs join; and the turns that are made are those asked for.
-use Rattle.std.proofs.Common.{◌≡◌, ℕ, suc, List, [], ◌∷◌, ◌++◌, length, Some, Result, sym, refl, ap, ◌∙◌, subst}
+use Rattle.std.proofs.Common.{◌≡◌, ℕ, suc, List, [], ◌∷◌, ◌++◌, length, Some, Result, sym, refl, ap, ◌∙◌}
 use Rattle.std.specs.Prelude.{slice_get}
 use Rattle.std.proofs.lemmas.List.{append-nil, append_assoc}
 use Rattle.model.specs.declared.call.Answer.{Answer}
@@ -33,19 +33,16 @@ module _ (p : Problem) where
   pub run_answers : {start st : State} {calls : List Call} {answers : List (Result Answer Refusal)} → Run p start calls answers st → answers ≡ answers_to p start calls
   run_answers no_calls = refl
   run_answers {start} (and_then {calls = calls} {answers = answers} {st = st} r c) =
-      ap (λ l. l ++ (answer p st c ∷ [])) (run_answers r)
-      ∙ ap (λ s. answers_to p start calls ++ (answer p s c ∷ [])) (run_ends r)
-      ∙ sym (answers_two start calls (c ∷ []))
+      rw (answers_two start calls (c ∷ []), run_answers r, run_ends r) refl
 
   -- and goes on with every list of calls.
   run_on : (more : List Call) (start st : State) (calls : List Call) (answers : List (Result Answer Refusal)) → Run p start calls answers st
       → Run p start (calls ++ more) (answers ++ answers_to p st more) (after_all p st more)
   run_on [] start st calls answers r =
-      subst (λ cs. Run p start cs (answers ++ []) st) (sym (append-nil calls)) (subst (λ l. Run p start calls l st) (sym (append-nil answers)) r)
+      rw (append-nil calls, append-nil answers) r
   run_on (c ∷ more) start st calls answers r =
       let longer = run_on more start (after p st c) (calls ++ (c ∷ [])) (answers ++ (answer p st c ∷ [])) (and_then r c) in
-      subst (λ cs. Run p start cs (answers ++ answers_to p st (c ∷ more)) (after_all p st (c ∷ more))) (append_assoc calls (c ∷ []) more)
-      (subst (λ l. Run p start ((calls ++ (c ∷ [])) ++ more) l (after_all p (after p st c) more)) (append_assoc answers (answer p st c ∷ []) (answers_to p (after p st c) more)) longer)
+      rw (append_assoc calls (c ∷ []) more, append_assoc answers (answer p st c ∷ []) (answers_to p (after p st c) more)) at longer
 
   pub run_of : (start : State) (calls : List Call) → Run p start calls (answers_to p start calls) (after_all p start calls)
   run_of start calls = run_on calls start start [] [] no_calls
@@ -73,6 +70,5 @@ runs_are_determined = record {
   every_list_runs = run_of;
   only_one_run = λ p start calls answers st r. (run_answers p r, run_ends p r);
   runs_join = λ p start middle st calls later answers more r q.
-      subst (λ l. Run p start (calls ++ later) (answers ++ l) st) (sym (run_answers p q))
-      (subst (Run p start (calls ++ later) (answers ++ answers_to p middle later)) (sym (run_ends p q)) (run_on p later start middle calls answers r));
+      rw (run_answers p q, run_ends p q) (run_on p later start middle calls answers r);
 }

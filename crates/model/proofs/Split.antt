@@ -47,7 +47,7 @@ module _ (p : Problem) (i : ℕ) (cs : List Condition) (m : ℕ) (c : List ℕ) 
   meets_first it its q (kept, one) = ⊎_elim first other (Memᴰ.cases_cons one.among)
     where
       first : one.it ≡ it → (Kept q (under it) × listed it) ⊎ Waits its q
-      first e = inl (subst (λ j. Kept q (under j)) e (child_kept p q cs m one.it kept one.meets), subst listed e one.listed)
+      first e = inl (rw e at (child_kept p q cs m one.it kept one.meets), rw e at one.listed)
 
       other : Memᴰ one.it its → (Kept q (under it) × listed it) ⊎ Waits its q
       other t = inr (kept, record { it = one.it; among = t; listed = one.listed; meets = one.meets })
@@ -58,7 +58,7 @@ module _ (p : Problem) (i : ℕ) (cs : List Condition) (m : ℕ) (c : List ℕ) 
   split_full (it ∷ its) st = refl
 
   full_good : (its : List Item) (st : State) → NoPlanBelow p.site p.task st.floor → EachNodeWasPut st Full → length st.nodes ≡ most_nodes → Good p (split p i cs m c its (with_outcome Full st))
-  full_good its st below put full = subst (Good p) (sym (split_full its st)) (record { floor_holds = below; standing = full; each_put = put })
+  full_good its st below put full = rw (split_full its st) (record { floor_holds = below; standing = full; each_put = put })
 
   -- Its execution is x, of the floor's cost.
   module _ (lawful : Lawful p.site) (x : List TimedPath) (ex : Executes p cs x) where

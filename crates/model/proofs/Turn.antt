@@ -1,5 +1,5 @@
 -- A turn keeps a search good, counts, and never lowers the floor.
-use Rattle.std.proofs.Common.{◌≡◌, ℕ, suc, ◌≤◌, cond, ltb, List, [], ◌∷◌, length, Some, None, Option, sym, refl, ◌∙◌, subst, ⊎_elim, arith}
+use Rattle.std.proofs.Common.{◌≡◌, ℕ, suc, ◌≤◌, cond, List, [], ◌∷◌, Some, None, Option, refl, ◌∙◌, ⊎_elim, arith}
 use mathlib.Core.List.Memᴰ
 use mathlib.Core.List.{Memᴰ}
 use Rattle.std.proofs.lemmas.Bool.{cond_both}
@@ -10,7 +10,6 @@ use Rattle.model.specs.declared.outcome.Outcome.{Outcome}
 use Rattle.model.specs.declared.outcome.Outcome.TheVariants.{Running, Found, Full}
 use Rattle.model.specs.Execution.{execution, latest, at_moment, first_break}
 use Rattle.model.specs.Item.{at_time}
-use Rattle.model.specs.Limits.{most_nodes}
 use Rattle.model.specs.Nodes.{child, conditions_of}
 use Rattle.model.specs.OpenList.{Pair, first, rest}
 use Rattle.model.specs.Path.{TimedPath}
@@ -31,7 +30,7 @@ exhausted_good : (p : Problem) (st : State) → st.pairs ≡ [] → Ready p None
 exhausted_good p st empty r = record { floor_holds = below_all p (suc p.task.horizon) (omega arith) (λ q. absurd (nobody q)); standing = refl; each_put = omega (arith, r.counted) }
   where
     nobody : Timely p → ⊥
-    nobody q = ⊎_elim (λ (c : Covered p st q). Memᴰ.not-nil (subst (Memᴰ c.pair) empty c.among)) (λ left. left) (r.covers q)
+    nobody q = ⊎_elim (λ (c : Covered p st q). Memᴰ.not-nil (rw empty at c.among)) (λ left. left) (r.covers q)
 
 -- A pair is taken: the search is found, or the pair's node is split.
 module _ (p : Problem) (lawful : Lawful p.site) (laws : RuleLaws p.rule)
@@ -78,7 +77,7 @@ module _ (p : Problem) (lawful : Lawful p.site) (laws : RuleLaws p.rule)
       })
 
   taken_good : Good p (turn_on p (Some a) ps st)
-  taken_good = subst (λ x. Good p (visit p a.1 cs x (taken a ps st))) (sym here.runs) (expand_good (first_break p.site here.paths 0 moments) refl)
+  taken_good = rw here.runs (expand_good (first_break p.site here.paths 0 moments) refl)
 
 pub turn_good : (p : Problem) → Lawful p.site → RuleLaws p.rule → (st : State) → st.outcome ≡ Running → Good p st → Good p (turn p st)
 turn_good p lawful laws st run g = go st.pairs refl
@@ -95,8 +94,7 @@ pub record Untouched (f : State → ℕ) : Type 0 where
 module _ (f : State → ℕ) (same : Untouched f) (p : Problem) (i : ℕ) (cs : List Condition) where
   add_keeps : (c : Condition) (r : Option (List TimedPath)) (st : State) → f (add_child i c r st) ≡ f st
   add_keeps c None st = refl
-  add_keeps c (Some x) st = cond_both (ltb (length st.nodes) most_nodes) (with_node (child i c (latest x)) st) (with_outcome Full st)
-      (λ u. f u ≡ f st) (λ _. same.by_node (child i c (latest x)) st) (λ _. same.by_outcome Full st)
+  add_keeps c (Some x) st = grind (arith, same.by_node (child i c (latest x)) st, same.by_outcome Full st)
 
   split_keeps : (m : ℕ) (c : List ℕ) (its : List Item) (st : State) → f (split p i cs m c its st) ≡ f st
   split_keeps m c [] st = refl
@@ -135,4 +133,4 @@ turn_raises p st r = go st.pairs refl
     go [] e = omega (arith, r.low)
     go (a ∷ ps) e =
         let same = turn_keeps (λ u. u.floor) (record { by_node = λ n u. refl; by_outcome = λ o u. refl }) p a ps st in
-        omega (arith, (r.opened a (subst (Memᴰ a) (sym e) (Memᴰ.head refl))).above)
+        omega (arith, (r.opened a (rw e (Memᴰ.head refl))).above)
