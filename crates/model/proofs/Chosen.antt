@@ -1,5 +1,5 @@
 -- The computed path is the chosen one.
-use Rattle.std.proofs.Common.{◌≡◌, ℕ, zero, suc, ◌+◌, ◌-◌, ◌<◌, ◌≤◌, Bool, true, cond, if◌then◌else◌, ◌&&◌, eqb, ◌==◌, ◌↔◌, List, [], ◌∷◌, map, length, slice_index, slice_index_or, Some, None, ◌⊎◌, Option, sym, refl, inl, inr, ap, ◌∙◌, ⊎_elim, zero-add, arith}
+use Rattle.std.proofs.Common.{◌≡◌, ℕ, zero, suc, ◌+◌, ◌-◌, ◌<◌, ◌≤◌, Bool, true, if◌then◌else◌, ◌&&◌, ◌==◌, ◌↔◌, List, [], ◌∷◌, map, length, slice_index, slice_index_or, Some, None, ◌⊎◌, Option, sym, refl, inl, inr, ap, ◌∙◌, ⊎_elim, zero-add, arith}
 use mathlib.Core.Bool.{beq}
 use mathlib.Core.List.Memᴰ
 use mathlib.Core.List.{Memᴰ}
@@ -120,13 +120,11 @@ meets d q p h = grind (arith, nat_tests)
 test_of_meets : (d : Demand) (q p : ℕ) → Meets d q p → beq (p == q) (must_be d) ≡ true
 test_of_meets d q p h = grind (arith, nat_tests)
 
-keeps_one : (a m p : ℕ) (c : Condition) → cond (eqb c.item.carrier a && eqb c.moment m) (beq (eqb p c.item.place) (must_be c.item.demand)) true ≡ true → Keeps a m p c
+keeps_one : (a m p : ℕ) (c : Condition) → (if c.item.carrier == a && c.moment == m then beq (p == c.item.place) (must_be c.item.demand) else true) ≡ true → Keeps a m p c
 keeps_one a m p c h at on = meets c.item.demand c.item.place p (grind (arith, nat_tests))
 
-test_of_keeps : (a m p : ℕ) (c : Condition) → Keeps a m p c → cond (eqb c.item.carrier a && eqb c.moment m) (beq (eqb p c.item.place) (must_be c.item.demand)) true ≡ true
-test_of_keeps a m p c h = cond_both (eqb c.item.carrier a && eqb c.moment m) _ _ (λ t. t ≡ true)
-    (λ t. test_of_meets c.item.demand c.item.place p (h (grind (arith, nat_tests)) (grind (arith, nat_tests))))
-    (λ _. refl)
+test_of_keeps : (a m p : ℕ) (c : Condition) → Keeps a m p c → (if c.item.carrier == a && c.moment == m then beq (p == c.item.place) (must_be c.item.demand) else true) ≡ true
+test_of_keeps a m p c h = grind (arith, nat_tests, test_of_meets c.item.demand c.item.place p)
 
 pub allowed_keeps : (a m p : ℕ) (cs : List Condition) → allowed a cs m p ≡ true → (c : Condition) → Memᴰ c cs → Keeps a m p c
 allowed_keeps a m p [] h c t = elim t [ ]

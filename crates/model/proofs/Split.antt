@@ -1,5 +1,5 @@
 -- A node that is out of contact is split: its children cover the plans that it covered, or the table is full.
-use Rattle.std.proofs.Common.{◌≡◌, ℕ, ◌<◌, true, cond, ltb, ◌⊎◌, List, [], ◌∷◌, length, Some, None, Option, sym, refl, ap, ◌∙◌, subst, inl, inr, ⊎_elim, arith}
+use Rattle.std.proofs.Common.{◌≡◌, ℕ, ◌<◌, true, if◌then◌else◌, ltb, ◌⊎◌, List, [], ◌∷◌, length, Some, None, Option, sym, refl, ap, ◌∙◌, subst, inl, inr, ⊎_elim, arith}
 use mathlib.Core.List.Memᴰ
 use mathlib.Core.List.{Memᴰ}
 use Rattle.std.proofs.lemmas.Bool.{cond_both, ltb-true, ltb-false, both_ways}
@@ -104,7 +104,7 @@ module _ (p : Problem) (i : ℕ) (cs : List Condition) (m : ℕ) (c : List ℕ) 
     pub split_good : (its : List Item) (st : State) → Splitting its st → Good p (split p i cs m c its st)
     split_good [] st s = still_running s.still (fewer_left s.ready (λ q w. Memᴰ.not-nil w.1.among))
     split_good (it ∷ its) st s =
-        subst (λ o. Good p (cond (is_full o) st (split p i cs m c its (cond (p.rule p.site c it) (add_child i (at_time m it) (execution p.site p.task (under it)) st) st)))) (sym s.still)
+        subst (λ o. Good p (if is_full o then st else split p i cs m c its (if p.rule p.site c it then add_child i (at_time m it) (execution p.site p.task (under it)) st else st))) (sym s.still)
         (cond_both (p.rule p.site c it) (add_child i (at_time m it) (execution p.site p.task (under it)) st) st (λ u. Good p (split p i cs m c its u))
         (λ yes_listed. added (execution p.site p.task (under it)) refl (λ u. split_good its u))
         (λ unlisted. split_good its st (passed it its st (λ q kept yes_listed. both_ways (p.rule p.site c it) unlisted yes_listed) s)))

@@ -1,5 +1,5 @@
 -- A turn keeps a search good, counts, and never lowers the floor.
-use Rattle.std.proofs.Common.{◌≡◌, ℕ, suc, ◌≤◌, cond, List, [], ◌∷◌, Some, None, Option, refl, ◌∙◌, ⊎_elim, arith}
+use Rattle.std.proofs.Common.{◌≡◌, ℕ, suc, ◌≤◌, if◌then◌else◌, List, [], ◌∷◌, Some, None, Option, refl, ◌∙◌, ⊎_elim, arith}
 use mathlib.Core.List.Memᴰ
 use mathlib.Core.List.{Memᴰ}
 use Rattle.std.proofs.lemmas.Bool.{cond_both}
@@ -99,7 +99,7 @@ module _ (f : State → ℕ) (same : Untouched f) (p : Problem) (i : ℕ) (cs : 
   split_keeps : (m : ℕ) (c : List ℕ) (its : List Item) (st : State) → f (split p i cs m c its st) ≡ f st
   split_keeps m c [] st = refl
   split_keeps m c (it ∷ its) st =
-      let next : State = cond (p.rule p.site c it) (add_child i (at_time m it) (execution p.site p.task (at_time m it ∷ cs)) st) st in
+      let next : State = if p.rule p.site c it then add_child i (at_time m it) (execution p.site p.task (at_time m it ∷ cs)) st else st in
       let added : f next ≡ f st = cond_both (p.rule p.site c it) (add_child i (at_time m it) (execution p.site p.task (at_time m it ∷ cs)) st) st (λ u. f u ≡ f st)
       (λ _. add_keeps (at_time m it) (execution p.site p.task (at_time m it ∷ cs)) st) (λ _. refl) in
       cond_both (is_full st.outcome) st (split p i cs m c its next) (λ u. f u ≡ f st) (λ _. refl) (λ _. split_keeps m c its next ∙ added)
