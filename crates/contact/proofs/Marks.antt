@@ -12,7 +12,7 @@ use Rattle.model.specs.Contact.{hears, rounds}
 use Rattle.model.proofs.Tables.{same_everywhere}
 use Rattle.model.proofs.Contact.{spread_at, rounds_all_of, rounds_rest, rounds_stay}
 use Rattle.contact.specs.declared.marking.Marking.{Marking}
-use Rattle.contact.specs.Marking.{is_marked, is_relay, is_heard, is_near, IsAfter}
+use Rattle.contact.specs.Marking.{is_marked, is_relay, is_heard, is_near, IsAfter, Round}
 
 -- The carrier at index i is marked after k rounds, and in contact with p.
 abbrev pub relays : Site → List ℕ → ℕ → ℕ → ℕ → Bool
@@ -63,6 +63,20 @@ module _ {S : Type 0} (meaning : S → Site) (m : Marking S) where
     where
       place : (q : ℕ) → (meaning m.site.now).in_contact q p ≡ true → p < most_places
       place q t = let l = lawful.contact_is_place p q (lawful.contact_both_ways p q ∙ t) in omega (arith, lawful.few_places)
+
+  -- What a pass over all carriers makes is a round.
+  pub round_of : Lawful (meaning m.site.now) → (marks : List Bool) (n : ℕ) → length m.configuration.now ≤ n → Pass meaning m marks n → Round meaning m (record m { marks = marks })
+  round_of lawful marks n all pass = record {
+    site_is = refl;
+    configuration_is = refl;
+    kept = pass.kept;
+    only = pass.only;
+    done = λ i l near. let place = near_is_place lawful _ near in pass.done i (omega arith) (omega (arith, pass.sized)) near;
+  }
+
+  -- Where it marks nothing more, the round is made already.
+  pub round_at_rest : Lawful (meaning m.site.now) → (marks : List Bool) (n : ℕ) → length m.configuration.now ≤ n → Pass meaning m marks n → marks ≡ m.marks → Round meaning m m
+  round_at_rest lawful marks n all pass still = subst (λ ms. Round meaning m (record m { marks = ms })) still (round_of lawful marks n all pass)
 
 module _ {S : Type 0} (meaning : S → Site) (site : S) (c : List ℕ) (k : ℕ) (m : Marking S) (after : IsAfter meaning site c k m) where
   -- A carrier stands at a marked place if it is marked after that many rounds.

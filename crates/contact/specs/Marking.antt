@@ -1,5 +1,5 @@
 -- Which places are marked, and how marks spread over a configuration.
-use Rattle.std.specs.Prelude.{◌≡◌, ℕ, ◌+◌, Bool, false, ◌&&◌, ◌||◌, List, map, length, Option, Some, None, slice_index_or}
+use Rattle.std.specs.Prelude.{◌≡◌, ℕ, ◌+◌, ◌<◌, Bool, true, false, ◌&&◌, ◌||◌, List, map, length, Option, Some, None, ◌≢◌, slice_index, slice_index_or}
 use Rattle.std.specs.List.{list_any}
 use Rattle.model.specs.Site.{Site}
 use Rattle.model.specs.Contact.{rounds}
@@ -30,6 +30,21 @@ pub record IsAfter {S : Type 0} (meaning : S → Site) (site : S) (configuration
   pub site_is : m.site.now ≡ site
   pub configuration_is : m.configuration.now ≡ configuration
   pub marked : carriers_marked m ≡ rounds k (meaning site) configuration
+
+-- One round more, at the same site and over the same configuration: no mark is lost, only places that are near are marked besides, and
+-- the places of carriers that are near are marked.
+pub record Round {S : Type 0} (meaning : S → Site) (before after : Marking S) : Type 0 where
+  pub site_is : after.site.now ≡ before.site.now
+  pub configuration_is : after.configuration.now ≡ before.configuration.now
+  pub kept : (p : ℕ) → is_marked before p ≡ true → is_marked after p ≡ true
+  pub only : (p : ℕ) → is_marked after p ≡ true → (is_marked before p || is_near meaning before p) ≡ true
+  pub done : (i : ℕ) → i < length before.configuration.now → is_near meaning before (slice_index before.configuration.now i) ≡ true
+      → is_marked after (slice_index before.configuration.now i) ≡ true
+
+-- What is answered to a round: the marking that it leads to or, where that has no mark more, nothing.
+abbrev pub MakesRound : {S : Type 0} → (S → Site) → Marking S → Option (Marking S) → Type 0
+MakesRound meaning m (Some next) = Round meaning m next × (next.marks ≢ m.marks)
+MakesRound meaning m None = Round meaning m m
 
 -- What one round more makes of a marking after some rounds: the next, or nothing where it is already the one after all rounds.
 abbrev pub Spreads : {S : Type 0} → (S → Site) → Marking S → Option (Marking S) → Type 0

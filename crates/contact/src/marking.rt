@@ -1,6 +1,6 @@
 //! Which places are marked, and how marks spread over a configuration, round by round.
 
-ghost use Rattle.std.specs.Prelude.{◌≡◌, length, not, position};
+ghost use Rattle.std.specs.Prelude.{◌≡◌, ℕ, false, length, not, position};
 
 use model::limits::MOST_PLACES;
 use site::Site;
@@ -15,11 +15,12 @@ pub(crate) struct Marking<'a, S> {
 }
 
 impl<'a, S: Site> Marking<'a, S> {
-    ghost use Rattle.contact.specs.Marking.{IsAfter, Spreads, is_heard, is_marked, is_near, is_relay};
+    ghost use Rattle.contact.specs.Marking.{IsAfter, MakesRound, Spreads, is_heard, is_marked, is_near, is_relay};
 
     /// The marking before the first round: nothing is marked.
     pub(crate) fn new(site: &'a S, configuration: &'a [usize]) -> Self
-        ensures { IsAfter S.Site.meaning site.now configuration.now 0 result }
+        ensures first { IsAfter S.Site.meaning site.now configuration.now 0 result }
+        ensures unmarked { (p : ℕ) → is_marked result p ≡ false }
     {
         Marking {
             site,
@@ -71,7 +72,8 @@ impl<'a, S: Site> Marking<'a, S> {
 
     /// The marking one round later: the carriers' places that are near in this one are marked too. None if they all are already.
     pub(crate) fn spread(&self) -> Option<Self>
-        ensures { Spreads S.Site.meaning self.now result }
+        ensures round { MakesRound S.Site.meaning self.now result }
+        ensures next { Spreads S.Site.meaning self.now result }
     {
         let mut marks = self.marks;
         for &p in self.configuration {

@@ -1,5 +1,5 @@
 -- Worked examples on six places, as one table of questions and replies.
-use Rattle.std.specs.Prelude.{◌≡◌, ℕ, if◌then◌else◌, List, [], ◌∷◌, map, replicate, ℤ, pos, Some, None, Option, Ok, Err, Result, ◌==◌}
+use Rattle.std.specs.Prelude.{◌≡◌, ℕ, if◌then◌else◌, List, [], ◌∷◌, map, replicate, ℤ, pos, Some, None, Option, Ok, Err, Result, ◌==◌, unwrap_or}
 use Rattle.model.specs.declared.call.Answer.{Answer}
 use Rattle.model.specs.declared.call.Answer.TheVariants.{Turns, Looked, Place}
 use Rattle.model.specs.declared.call.Call.{Call}
@@ -46,11 +46,11 @@ pub data Question : Type 0 where
   conditions_at : List Node → ℕ → Question
   one_turn : ℕ → ℕ → Task → Question
 
--- What is replied: how it looks or, where it is unfit, the number of the refusal and the carrier that it names, turns, nodes and floor;
--- the answers; the items; the path, if there is one; the refusal, if there is one; the pairs; the conditions.
+-- What is replied: how it looks or, where it is unfit, the number of the refusal, the carrier that it names, if it names one, and that
+-- carrier in numbers, turns, nodes and floor; the answers; the items; the path, if there is one; the refusal, if there is one; the pairs; the conditions.
 pub data Reply : Type 0 where
   looks : Look → Reply
-  fails : ℕ → ℕ → ℕ → ℕ → ℕ → Reply
+  fails : ℕ → Option ℕ → ℕ → ℕ → ℕ → ℕ → Reply
   answers : List (Result Answer Refusal) → Reply
   lists : List Item → Reply
   walks : Option TimedPath → Reply
@@ -104,7 +104,7 @@ seen_as Running l = looks l
 seen_as (Found n) l = looks l
 seen_as NoPlan l = looks l
 seen_as Full l = looks l
-seen_as (Unfit u) l = fails (number_in (Unfit u)) (carrier_in (Unfit u)) l.turns l.nodes l.floor
+seen_as (Unfit u) l = fails (number_in (Unfit u)) u.carrier (carrier_in (Unfit u)) l.turns l.nodes l.floor
 
 abbrev pub seen : Look → Reply
 seen l = seen_as l.outcome l
@@ -137,9 +137,9 @@ look_at o turns nodes floor = record { outcome = o; turns = turns; nodes = nodes
 abbrev pub stands : Outcome → ℕ → ℕ → ℕ → Reply
 stands o turns nodes floor = looks (look_at o turns nodes floor)
 
--- It is unfit: the number of the refusal, and the carrier that it names. Nothing has been done.
-abbrev pub unfit : ℕ → ℕ → Reply
-unfit number carrier = fails number carrier 0 0 0
+-- It is unfit: the number of the refusal, and the carrier that it names, or nobody, which in numbers is 0. Nothing has been done.
+abbrev pub unfit : ℕ → Option ℕ → Reply
+unfit number carrier = fails number carrier (unwrap_or carrier 0) 0 0 0
 
 -- A carrier must be at a place, or must not be there.
 abbrev pub at : ℕ → ℕ → Item
@@ -203,26 +203,26 @@ examples =
     (planned_by yields (site_with all_contacts (pos 300)) (across 4), stands (Found 2) 2 3 2) ∷
     (planned_by three_way (site_with all_contacts (pos 300)) (across 4), stands (Found 2) 2 4 2) ∷
     -- goals and starts out of contact
-    (planned_by yields galleries (task (1 ∷ 4 ∷ []) (2 ∷ 5 ∷ []) 4), unfit 12 1) ∷
-    (planned_by three_way galleries (task (1 ∷ 4 ∷ []) (2 ∷ 5 ∷ []) 4), unfit 12 1) ∷
+    (planned_by yields galleries (task (1 ∷ 4 ∷ []) (2 ∷ 5 ∷ []) 4), unfit 12 (Some 1)) ∷
+    (planned_by three_way galleries (task (1 ∷ 4 ∷ []) (2 ∷ 5 ∷ []) 4), unfit 12 (Some 1)) ∷
     (planned_by three_way galleries (task (4 ∷ 2 ∷ 5 ∷ 3 ∷ []) (4 ∷ 2 ∷ 5 ∷ 3 ∷ []) 4), stands (Found 0) 1 1 0) ∷
-    (planned_by three_way galleries (task (5 ∷ 2 ∷ 1 ∷ []) (4 ∷ 2 ∷ 1 ∷ []) 4), unfit 11 2) ∷
+    (planned_by three_way galleries (task (5 ∷ 2 ∷ 1 ∷ []) (4 ∷ 2 ∷ 1 ∷ []) 4), unfit 11 (Some 2)) ∷
     -- a start or a goal that is closed: the lowest carrier is named
-    (planned_by three_way galleries (task (4 ∷ 0 ∷ 0 ∷ []) (4 ∷ 4 ∷ 4 ∷ []) 4), unfit 10 2) ∷
-    (planned_by three_way galleries (task (4 ∷ 4 ∷ 0 ∷ []) (4 ∷ 6 ∷ 4 ∷ []) 4), unfit 10 2) ∷
+    (planned_by three_way galleries (task (4 ∷ 0 ∷ 0 ∷ []) (4 ∷ 4 ∷ 4 ∷ []) 4), unfit 10 (Some 2)) ∷
+    (planned_by three_way galleries (task (4 ∷ 4 ∷ 0 ∷ []) (4 ∷ 6 ∷ 4 ∷ []) 4), unfit 10 (Some 2)) ∷
     -- carriers and horizons at their limits; the earlier check is answered
-    (planned_by three_way galleries (task [] [] 4), unfit 8 0) ∷
-    (planned_by three_way galleries (task (4 ∷ 4 ∷ []) (4 ∷ []) 4), unfit 8 0) ∷
+    (planned_by three_way galleries (task [] [] 4), unfit 8 None) ∷
+    (planned_by three_way galleries (task (4 ∷ 4 ∷ []) (4 ∷ []) 4), unfit 8 None) ∷
     (planned_by three_way galleries (task (replicate 8 4) (replicate 8 4) 64), stands (Found 0) 1 1 0) ∷
-    (planned_by three_way galleries (task (replicate 9 4) (replicate 9 4) 64), unfit 8 0) ∷
-    (planned_by three_way galleries (task [] [] 65), unfit 8 0) ∷
-    (planned_by three_way galleries (task (0 ∷ []) (0 ∷ []) 65), unfit 9 0) ∷
-    (planned_by three_way galleries (task (2 ∷ 5 ∷ []) (0 ∷ 5 ∷ []) 4), unfit 10 1) ∷
-    (planned_by three_way galleries (task (5 ∷ 2 ∷ []) (2 ∷ 5 ∷ []) 4), unfit 11 2) ∷
+    (planned_by three_way galleries (task (replicate 9 4) (replicate 9 4) 64), unfit 8 None) ∷
+    (planned_by three_way galleries (task [] [] 65), unfit 8 None) ∷
+    (planned_by three_way galleries (task (0 ∷ []) (0 ∷ []) 65), unfit 9 None) ∷
+    (planned_by three_way galleries (task (2 ∷ 5 ∷ []) (0 ∷ 5 ∷ []) 4), unfit 10 (Some 1)) ∷
+    (planned_by three_way galleries (task (5 ∷ 2 ∷ []) (2 ∷ 5 ∷ []) 4), unfit 11 (Some 2)) ∷
     -- open lists that are not empty, or too small
     (begun_over [] 4096 (across 4), stands Running 0 1 0) ∷
-    (begun_over [] 4095 (task [] [] 65), unfit 21 0) ∷
-    (begun_over ((0, 0) ∷ []) 4096 (across 4), unfit 21 0) ∷
+    (begun_over [] 4095 (task [] [] 65), unfit 21 None) ∷
+    (begun_over ((0, 0) ∷ []) 4096 (across 4), unfit 21 None) ∷
     -- calls in a row, with those that are refused
     (
       called (across 4) (Advance 0 ∷ Advance 10001 ∷ Show 3 9 ∷ Advance 1 ∷ LookAt ∷ Advance 10000 ∷ LookAt ∷ Advance 1 ∷ Advance 0 ∷ []),

@@ -4,13 +4,13 @@ use Rattle.contact.proofs.Relays.{relayed_by, not_relayed}
 use Rattle.contact.proofs.relay_of.Goals as goal
 
 pub loop-round-init : goal.loop-round-init
-loop-round-init g c = (c.new-marking.ensures, none_heard g.S.Site.meaning c.args.site.now c.args.configuration.now c.new-marking.result c.new-marking.ensures c.in_ok-place.place)
+loop-round-init g c = (c.new-marking.ensures.first, none_heard g.S.Site.meaning c.args.site.now c.args.configuration.now c.new-marking.result c.new-marking.ensures.first c.in_ok-place.place)
 
 pub returns-in_err-marking : goal.returns-in_err-marking
 returns-in_err-marking g c =
     let site = c.args.site.now in
     let configuration = c.args.configuration.now in
-    let rest = c.in_err-marking.ensures site configuration c.loop-round._round c.loop-round.invariant.0 in
+    let rest = c.in_err-marking.ensures.next site configuration c.loop-round._round c.loop-round.invariant.0 in
     rw c.from_residual-in_err-marking.ensures
     (not_relayed g.S.Site.meaning site configuration c.args.carrier c.in_ok-place.place (search rules) (search rules) c.loop-round.marking rest c.loop-round.invariant.1)
 
@@ -21,7 +21,7 @@ returns-in-Some g c =
     let k = c.loop-round._round in
     let next = c.in_ok-marking.marking in
     relayed_by g.S.Site.meaning site configuration c.args.carrier c.in_ok-place.place (search rules) (search rules) k c.loop-round.marking next
-    c.loop-round.invariant.0 c.loop-round.invariant.1 (c.in_ok-marking.ensures site configuration k c.loop-round.invariant.0) c.in-Some.i c.in-Some.ensures
+    c.loop-round.invariant.0 c.loop-round.invariant.1 (c.in_ok-marking.ensures.next site configuration k c.loop-round.invariant.0) c.in-Some.i c.in-Some.ensures
 
 pub loop-round-preserved : goal.loop-round-preserved
 loop-round-preserved g c = (search rules, unheard g.S.Site.meaning c.in_ok-marking.marking c.in_ok-place.place c.in_default.ensures)
