@@ -57,7 +57,7 @@ pub fn relay_of<S: Site>(site: &S, configuration: &[usize], carrier: usize) -> O
         return Some(Relay::Base);
     }
     let mut marking = Marking::new(site, configuration);
-    // As many rounds as there are carriers are enough, as in `Marking::reached`.
+    // As many rounds as there are carriers are enough. A `while let` would need a measure, and a clause of `spread` for it.
     for _round in 0..configuration.len() {
         marking = marking.spread()?;
         if let Some(i) = marking.first_heard(place) {

@@ -34,7 +34,7 @@ impl<'a, S: Site> Marking<'a, S> {
         ensures { IsAfter S.Site.meaning site.now configuration.now (length configuration.now) result }
     {
         let mut marking = Self::new(site, configuration);
-        // As many rounds as there are carriers are enough. A `while let` would need a measure, which `spread` does not promise.
+        // As many rounds as there are carriers are enough. A `while let` would need a measure, and a clause of `spread` for it.
         for _round in 0..configuration.len() {
             let Some(next) = marking.spread() else { break };
             marking = next;

@@ -36,31 +36,29 @@ fn hall() -> Result<Hall, Refusal>
     Ok(hall)
 }
 
-/// Stores one reading at all of these places.
-fn warm<S: Site>(window: &mut Window<S>, places: Range<usize>, reading: i16) -> Result<(), Refusal>
-    ensures { below_of window.new ≡ below_of window.old }
+/// A window over the site, with one reading at all of these places.
+fn warmed<S: Site + Drop>(site: S, places: Range<usize>, reading: i16) -> Result<Window<S>, Refusal>
+    ensures { IfOk result (λ w. below_of w ≡ site) }
 {
+    let mut window = Window::new(site);
     for place in places {
         window.set(place, reading)?;
     }
-    Ok(())
+    Ok(window)
 }
 
 /// The six places, with a reading of 12.0 degrees at every place of the galleries.
 pub fn galleries() -> Result<Window<PairSite>, Refusal>
     ensures { IfOk result (λ w. network (below_of w) ≡ six_places) }
 {
-    let mut window = Window::new(six_places()?);
-    warm(&mut window, 1..6, 120)?;
-    Ok(window)
+    warmed(six_places()?, 1..6, 120)
 }
 
 /// The hall, with a reading of 18.5 degrees at every place.
 pub fn warm_hall() -> Result<Window<Hall>, Refusal>
     ensures { IfOk result (λ w. grid (below_of w) ≡ walled_hall) }
 {
-    let mut window = Window::new(hall()?);
-    let places = 0..window.places();
-    warm(&mut window, places, 185)?;
-    Ok(window)
+    let hall = hall()?;
+    let places = 0..hall.places();
+    warmed(hall, places, 185)
 }

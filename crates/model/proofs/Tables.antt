@@ -1,9 +1,6 @@
 -- Tables that are asked place by place.
-use Rattle.std.proofs.Common.{◌≡◌, ℕ, zero, suc, ◌<◌, List, length, get_or, set, replicate, arith}
-use Rattle.std.proofs.lemmas.List.{get_or-set_other, get_or-replicate, get_or_past, length-replicate}
-use Rattle.std.proofs.lemmas.Grind.{get_or-set_at}
-use Rattle.std.proofs.lemmas.Bool.Decides.{nat_tests}
-use Rattle.model.specs.Site.{at_place}
+use Rattle.std.proofs.Common.{◌≡◌, ℕ, zero, suc, ◌<◌, get_or, replicate, arith}
+use Rattle.std.proofs.lemmas.List.{get_or-replicate, get_or_past, length-replicate}
 
 -- What holds of 0, and of suc k for each k below n, holds of all below suc n.
 pub from_first : (P : ℕ → Type 0) {n : ℕ} → P 0 → ((k : ℕ) → k < n → P (suc k)) → (k : ℕ) → k < suc n → P k
@@ -13,7 +10,3 @@ from_first P first later (suc k) l = later k (omega arith)
 -- A table that holds one value everywhere, and has it for its default.
 pub same_everywhere : {A : Type 0} (n : ℕ) (v : A) (q : ℕ) → get_or (replicate n v) q v ≡ v
 same_everywhere n v q = grind (arith, get_or-replicate, get_or_past, length-replicate)
-
--- A write at p changes the answer at p, and no other.
-pub written : {A : Type 0} (xs : List A) (p : ℕ) (v d : A) → p < length xs → (q : ℕ) → get_or (set xs p v) q d ≡ at_place p v (λ r. get_or xs r d) q
-written xs p v d l q = grind (arith, nat_tests, get_or-set_at, get_or-set_other)

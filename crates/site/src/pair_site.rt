@@ -32,8 +32,7 @@ impl PairTable {
     {
         self.marks
             .get(p.min(q))
-            .and_then(|row| row.get(p.max(q)))
-            .is_some_and(|mark| *mark)
+            .is_some_and(|row| row.get(p.max(q)) == Some(&true))
     }
 
     // The number of places is given to the next two, and not kept here: a pair site would have it three times.

@@ -59,10 +59,7 @@ impl<S: Site> Site for Window<S> {
     }
 
     fn is_open(&self, p: usize) -> bool {
-        self.below.is_open(p)
-            && self.readings[p].is_some_and(|reading| (COOLEST_OPEN..=WARMEST_OPEN).contains(
-                &reading,
-            ))
+        self.below.is_open(p) && matches!(self.readings[p], Some(COOLEST_OPEN..=WARMEST_OPEN))
     }
 
     fn has_move(&self, p: usize, q: usize) -> bool {

@@ -7,6 +7,7 @@ use std::test::Fail;
 fn count<F: Fn(usize, usize) -> bool>(answer: F) -> usize
     requires { F.IsAlwaysCallable answer }
 {
+    // By `fold`, since nothing says of the counts that `sum` of them fits.
     (0..8)
         .map(|p| (0..8).filter(|q| answer(p, *q)).count())
         .fold(0, |yes: usize, more| yes.saturating_add(more))
