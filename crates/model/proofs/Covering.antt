@@ -90,10 +90,13 @@ module _ (p : Problem) (st : State) (n : Node) where
 
   -- The pair of the new node is put.
   module _ (accepted : put st.room here st.pairs ≡ insert here st.pairs) where
+    is_put : (a : Pair) → Memᴰ a (insert here st.pairs) → Memᴰ a (with_node n st).pairs
+    is_put a h = rw accepted h
+
     stays_covered : {q : Timely p} → Family st.nodes → ((a : Pair) → Memᴰ a st.pairs → Opened p st a) → Covered p st q → Covered p (with_node n st) q
     stays_covered {q} fam opened c = record {
       pair = c.pair;
-      among = rw accepted (others_stay here c.pair st.pairs c.among);
+      among = is_put c.pair (others_stay here c.pair st.pairs c.among);
       kept = rw (conditions_stay st.nodes n fam c.pair.1 (opened c.pair c.among).inside) c.kept;
     }
 
@@ -117,7 +120,7 @@ module _ (p : Problem) (st : State) (n : Node) where
         here_opened = record { inside = omega (arith, longer); paths = x; runs = rw new.conditions new.runs; cost = new.cost; above = new.above }
 
         here_covers : (q : Timely p) → Kept q cs → Covered p (with_node n st) q
-        here_covers q k = record { pair = here; among = rw accepted (put_is_there here st.pairs); kept = rw new.conditions k }
+        here_covers q k = record { pair = here; among = is_put here (put_is_there here st.pairs); kept = rw new.conditions k }
 
 pub node_added : (p : Problem) → Lawful p.site → (st : State) (n : Node) {Left Fewer : Timely p → Type 0} {cs : List Condition} {x : List TimedPath} → Ready p Left st → NewNode p st n cs x
     → ((q : Timely p) → Left q → Kept q cs ⊎ Fewer q) → Ready p Fewer (with_node n st)

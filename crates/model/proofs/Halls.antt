@@ -1,5 +1,5 @@
 -- Halls are lawful, and their moves and contacts are those of a grid.
-use Rattle.std.proofs.Common.{◌≡◌, ℕ, ◌+◌, ◌*◌, ◌<◌, ◌≤◌, true, ◌↔◌, arith}
+use Rattle.std.proofs.Common.{◌≡◌, ℕ, ◌+◌, ◌*◌, ◌<◌, ◌≤◌, true, ◌&&◌, nat_le, ◌↔◌, arith}
 use Rattle.std.proofs.lemmas.Nat.{div-mul-add, mod-mul-add, div-add-mod', mul-add-lt}
 use Rattle.std.proofs.lemmas.Bool.Decides.{nat_tests}
 use Rattle.model.specs.Limits.{most_places}
@@ -22,8 +22,11 @@ module _ (g : Grid) where
   cell_inside r c hr hc = omega (arith, mul-add-lt r g.columns c g.rows hr hc)
 
   module _ (r c s d : ℕ) (hr : r < g.rows) (hc : c < g.columns) (hs : s < g.rows) (hd : d < g.columns) where
+    move_is : (hall_site g).has_move (cell g r c) (cell g s d) ≡ (nat_le (apart r s) 1 && nat_le (apart c d) 1)
+    move_is = grind (arith, nat_tests, rows_and_columns r c hc, rows_and_columns s d hd, cell_inside r c hr hc, cell_inside s d hs hd)
+
     moves_to_neighbours : ((hall_site g).has_move (cell g r c) (cell g s d) ≡ true) ↔ ((apart r s ≤ 1) × (apart c d ≤ 1))
-    moves_to_neighbours = grind (arith, nat_tests, div-mul-add, mod-mul-add, mul-add-lt)
+    moves_to_neighbours = grind (arith, nat_tests, move_is)
 
     contact_within_radius : ((hall_site g).in_contact (cell g r c) (cell g s d) ≡ true) ↔ (apart r s * apart r s + apart c d * apart c d ≤ g.radius * g.radius)
     contact_within_radius = grind (arith, nat_tests, rows_and_columns r c hc, rows_and_columns s d hd, cell_inside r c hr hc, cell_inside s d hs hd)

@@ -1,5 +1,5 @@
 -- The open list: what is put stands at its place, nothing else is added, and nothing is lost.
-use Rattle.std.proofs.Common.{◌≡◌, ℕ, suc, ◌<◌, ◌≤◌, ◌⊎◌, List, [], ◌∷◌, length, refl, ◌∙◌, arith}
+use Rattle.std.proofs.Common.{◌≡◌, ℕ, suc, ◌<◌, ◌≤◌, true, ◌⊎◌, List, [], ◌∷◌, length, refl, ◌∙◌, arith}
 use mathlib.Core.List.Memᴰ
 use mathlib.Core.List.{Memᴰ}
 use Rattle.std.proofs.lemmas.Bool.{cond_both}
@@ -8,6 +8,9 @@ use Rattle.model.specs.Limits.{most_steps}
 use Rattle.model.specs.OpenList.{Pair, Before, precedes, insert, put, InOrder, times, OpenListsKeepOrder}
 
 -- The order of pairs.
+
+precedes_before : (a b : Pair) → precedes a b ≡ true → Before a b
+precedes_before a b e = grind (arith, nat_tests)
 
 pub before_costs : (a b : Pair) → Before a b → a.0 ≤ b.0
 before_costs a b e = grind arith
@@ -34,7 +37,7 @@ put_or_there a x (b ∷ bs) h = grind (arith, put_or_there a x bs, Memᴰ.cases_
 pub insert_in_order : (a : Pair) (bs : List Pair) → InOrder bs → InOrder (insert a bs)
 insert_in_order a [] o = ((λ b h. absurd (Memᴰ.not-nil h)), tt)
 insert_in_order a (b ∷ bs) o = cond_both (precedes a b) (a ∷ b ∷ bs) (b ∷ insert a bs) InOrder
-    (λ before. ((λ x h. grind (arith, nat_tests, o.0 x, Memᴰ.cases_cons h)), o))
+    (λ before. ((λ x h. grind (arith, precedes_before a b before, o.0 x, Memᴰ.cases_cons h)), o))
     (λ behind. ((λ x h. grind (arith, nat_tests, o.0 x, put_or_there a x bs h)), insert_in_order a bs o.1))
 
 -- A put that is refused changes nothing, and else the pair is inserted.
