@@ -1,6 +1,6 @@
 -- What holds of a running search: its open nodes have executions of their cost, stand in order, are counted,
 -- and cover every plan within the horizon.
-use Rattle.std.proofs.Common.{◌≡◌, suc, ◌+◌, ◌<◌, ◌≤◌, ◌⊎◌, List, [], ◌∷◌, ◌++◌, length, Some, refl, ap, inl, inr, ⊎_elim, arith}
+use Rattle.std.proofs.Common.{◌≡◌, suc, ◌+◌, ◌<◌, ◌≤◌, ◌⊎◌, List, [], ◌∷◌, ◌++◌, length, Some, subst, sym, refl, ap, inl, inr, ⊎_elim, arith}
 use mathlib.Core.List.Memᴰ
 use mathlib.Core.List.{Memᴰ}
 use Rattle.model.specs.declared.item.Condition.{Condition}
@@ -91,7 +91,7 @@ module _ (p : Problem) (st : State) (n : Node) where
   -- The pair of the new node is put.
   module _ (accepted : put st.room here st.pairs ≡ insert here st.pairs) where
     is_put : (a : Pair) → Memᴰ a (insert here st.pairs) → Memᴰ a (with_node n st).pairs
-    is_put a h = rw accepted h
+    is_put a h = subst (Memᴰ a) (sym accepted) h
 
     stays_covered : {q : Timely p} → Family st.nodes → ((a : Pair) → Memᴰ a st.pairs → Opened p st a) → Covered p st q → Covered p (with_node n st) q
     stays_covered {q} fam opened c = record {
