@@ -90,28 +90,30 @@ module _ {S : Type 0} (meaning : S → Site) (site : S) (c : List ℕ) (k : ℕ)
   near_after : (p : ℕ) → is_near meaning m p ≡ reaches (meaning site) c k p
   near_after p = cc (heard_after p)
 
-  module _ (lawful : Lawful (meaning m.site.now)) (marks : List Bool) (n : ℕ) (all : length m.configuration.now ≤ n) (pass : Pass meaning m marks n) where
-    -- What the next round marks.
-    at : (i : ℕ) → i < length c → get_or marks (get_or c i 0) false ≡ reaches (meaning site) c k (get_or c i 0)
+  module _ (lawful : Lawful (meaning m.site.now)) (next : Marking S) (round : Round meaning m next) where
+    same_carriers : next.configuration.now ≡ c
+    same_carriers = round.configuration_is ∙ after.configuration_is
+
+    -- What the round marks.
+    at : (i : ℕ) → i < length c → is_marked next (get_or c i 0) ≡ reaches (meaning site) c k (get_or c i 0)
     at i l =
         let p = get_or c i 0 in
         let here : get_or m.configuration.now i 0 ≡ p = ap (λ d. get_or d i 0) after.configuration_is in
-        let own : i < n = omega (arith, ap length after.configuration_is) in
-        let done : is_near meaning m p ≡ true → get_or marks p false ≡ true = λ near. let place = near_is_place meaning m lawful p near in cc (pass.done i own (omega arith) (cc)) in
+        let done : is_near meaning m p ≡ true → is_marked next p ≡ true = λ near. cc (round.done i (omega (arith, ap length after.configuration_is)) (cc)) in
         let grows : is_marked m p ≡ true → is_near meaning m p ≡ true = λ h. near_after p ∙ sym (spread_at (meaning site) c (rounds k (meaning site) c) i l) ∙ rounds_all_of (meaning site) c k i (sym (marked_is i l) ∙ h) in
-        grind (arith, pass.kept p, pass.only p, done, grows, near_after p)
+        grind (arith, round.kept p, round.only p, done, grows, near_after p)
 
-    -- What a pass over all carriers makes is one round more.
-    pub spreads : IsAfter meaning site c (k + 1) (record m { marks = marks })
-    spreads = rw add-one record { site_is = after.site_is; configuration_is = after.configuration_is; marked = ap (map (λ p. get_or marks p false)) after.configuration_is ∙ map_same _ _ c at }
+    -- It is one round more.
+    pub spreads : IsAfter meaning site c (k + 1) next
+    spreads = rw add-one record { site_is = round.site_is ∙ after.site_is; configuration_is = same_carriers; marked = ap (map (is_marked next)) same_carriers ∙ map_same _ _ c at }
 
-    -- Where it changes nothing, all rounds are made.
-    pub rests : marks ≡ m.marks → IsAfter meaning site c (length c) m
-    rests still =
-        let same : rounds (suc k) (meaning site) c ≡ rounds k (meaning site) c = sym (rw add-one at spreads.marked) ∙ ap (λ marks. map (λ p. get_or marks p false) m.configuration.now) still ∙ after.marked in
-        let last : rounds k (meaning site) c ≡ rounds (length c) (meaning site) c =
-        ⊎_elim (λ l. sym (rounds_stay (meaning site) c k same (length c) (omega arith))) (rounds_stay (meaning site) c (length c) (sym (rounds_rest (meaning site) c)) k) (cases_lt k (length c)) in
-        record { site_is = after.site_is; configuration_is = after.configuration_is; marked = after.marked ∙ last }
+  -- Where a round leads nowhere, all rounds are made.
+  pub rests : Lawful (meaning m.site.now) → Round meaning m m → IsAfter meaning site c (length c) m
+  rests lawful round =
+      let same : rounds (suc k) (meaning site) c ≡ rounds k (meaning site) c = sym (rw add-one at (spreads lawful m round).marked) ∙ after.marked in
+      let last : rounds k (meaning site) c ≡ rounds (length c) (meaning site) c =
+      ⊎_elim (λ l. sym (rounds_stay (meaning site) c k same (length c) (omega arith))) (rounds_stay (meaning site) c (length c) (sym (rounds_rest (meaning site) c)) k) (cases_lt k (length c)) in
+      record { site_is = after.site_is; configuration_is = after.configuration_is; marked = after.marked ∙ last }
 
   -- The first carrier that is heard at p is the first of those that are marked after that many rounds.
   pub first_relay : (p j : ℕ) → Some j ≡ position (λ q. is_relay meaning m q p) m.configuration.now

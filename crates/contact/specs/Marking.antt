@@ -1,5 +1,5 @@
 -- Which places are marked, and how marks spread over a configuration.
-use Rattle.std.specs.Prelude.{◌≡◌, ℕ, ◌+◌, ◌<◌, Bool, true, false, ◌&&◌, ◌||◌, List, map, length, Option, Some, None, ◌≢◌, slice_index, slice_index_or}
+use Rattle.std.specs.Prelude.{◌≡◌, ℕ, ◌<◌, Bool, true, false, ◌&&◌, ◌||◌, List, map, length, Option, Some, None, ◌≢◌, slice_index, slice_index_or}
 use Rattle.std.specs.List.{list_any}
 use Rattle.model.specs.Site.{Site}
 use Rattle.model.specs.Contact.{rounds}
@@ -42,11 +42,6 @@ pub record Round {S : Type 0} (meaning : S → Site) (before after : Marking S) 
       → is_marked after (slice_index before.configuration.now i) ≡ true
 
 -- What is answered to a round: the marking that it leads to or, where that has no mark more, nothing.
-abbrev pub MakesRound : {S : Type 0} → (S → Site) → Marking S → Option (Marking S) → Type 0
-MakesRound meaning m (Some next) = Round meaning m next × (next.marks ≢ m.marks)
-MakesRound meaning m None = Round meaning m m
-
--- What one round more makes of a marking after some rounds: the next, or nothing where it is already the one after all rounds.
 abbrev pub Spreads : {S : Type 0} → (S → Site) → Marking S → Option (Marking S) → Type 0
-Spreads {S} meaning m (Some next) = (site : S) (c : List ℕ) (k : ℕ) → IsAfter meaning site c k m → IsAfter meaning site c (k + 1) next
-Spreads {S} meaning m None = (site : S) (c : List ℕ) (k : ℕ) → IsAfter meaning site c k m → IsAfter meaning site c (length c) m
+Spreads meaning m (Some next) = Round meaning m next × (next.marks ≢ m.marks)
+Spreads meaning m None = Round meaning m m

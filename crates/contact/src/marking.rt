@@ -15,7 +15,7 @@ pub(crate) struct Marking<'a, S> {
 }
 
 impl<'a, S: Site> Marking<'a, S> {
-    ghost use Rattle.contact.specs.Marking.{IsAfter, MakesRound, Spreads, is_heard, is_marked, is_near, is_relay};
+    ghost use Rattle.contact.specs.Marking.{IsAfter, Spreads, is_heard, is_marked, is_near, is_relay};
 
     /// The marking before the first round: nothing is marked.
     pub(crate) fn new(site: &'a S, configuration: &'a [usize]) -> Self
@@ -72,8 +72,7 @@ impl<'a, S: Site> Marking<'a, S> {
 
     /// The marking one round later: the carriers' places that are near in this one are marked too. None if they all are already.
     pub(crate) fn spread(&self) -> Option<Self>
-        ensures round { MakesRound S.Site.meaning self.now result }
-        ensures next { Spreads S.Site.meaning self.now result }
+        ensures { Spreads S.Site.meaning self.now result }
     {
         let mut marks = self.marks;
         for &p in self.configuration {

@@ -1,5 +1,5 @@
 use Rattle.std.proofs.Common.{rules}
-use Rattle.contact.proofs.Marks.{none_heard, unheard}
+use Rattle.contact.proofs.Marks.{none_heard, rests, spreads, unheard}
 use Rattle.contact.proofs.Relays.{relayed_by, not_relayed}
 use Rattle.contact.proofs.relay_of.Goals as goal
 
@@ -10,21 +10,29 @@ pub returns-in_err-marking : goal.returns-in_err-marking
 returns-in_err-marking g c =
     let site = c.args.site.now in
     let configuration = c.args.configuration.now in
-    let rest = c.in_err-marking.ensures.next site configuration c.loop-round._round c.loop-round.invariant.0 in
+    let marking = c.loop-round.marking in
+    let rest = rests g.S.Site.meaning site configuration c.loop-round._round marking c.loop-round.invariant.0 (g.met.S.Site.lawful marking.site.now) c.in_err-marking.ensures in
     rw c.from_residual-in_err-marking.ensures
-    (not_relayed g.S.Site.meaning site configuration c.args.carrier c.in_ok-place.place (search rules) (search rules) c.loop-round.marking rest c.loop-round.invariant.1)
+    (not_relayed g.S.Site.meaning site configuration c.args.carrier c.in_ok-place.place (search rules) (search rules) marking rest c.loop-round.invariant.1)
 
 pub returns-in-Some : goal.returns-in-Some
 returns-in-Some g c =
     let site = c.args.site.now in
     let configuration = c.args.configuration.now in
     let k = c.loop-round._round in
+    let marking = c.loop-round.marking in
     let next = c.in_ok-marking.marking in
-    relayed_by g.S.Site.meaning site configuration c.args.carrier c.in_ok-place.place (search rules) (search rules) k c.loop-round.marking next
-    c.loop-round.invariant.0 c.loop-round.invariant.1 (c.in_ok-marking.ensures.next site configuration k c.loop-round.invariant.0) c.in-Some.i c.in-Some.ensures
+    let one_more = spreads g.S.Site.meaning site configuration k marking c.loop-round.invariant.0 (g.met.S.Site.lawful marking.site.now) next c.in_ok-marking.ensures.0 in
+    relayed_by g.S.Site.meaning site configuration c.args.carrier c.in_ok-place.place (search rules) (search rules) k marking next
+    c.loop-round.invariant.0 c.loop-round.invariant.1 one_more c.in-Some.i c.in-Some.ensures
 
 pub loop-round-preserved : goal.loop-round-preserved
-loop-round-preserved g c = (search rules, unheard g.S.Site.meaning c.in_ok-marking.marking c.in_ok-place.place c.in_default.ensures)
+loop-round-preserved g c =
+    let marking = c.loop-round.marking in
+    let next = c.in_ok-marking.marking in (
+      spreads g.S.Site.meaning c.args.site.now c.args.configuration.now c.loop-round._round marking c.loop-round.invariant.0 (g.met.S.Site.lawful marking.site.now) next c.in_ok-marking.ensures.0,
+      unheard g.S.Site.meaning next c.in_ok-place.place c.in_default.ensures,
+    )
 
 pub returns : goal.returns
 returns g c =
