@@ -12,7 +12,7 @@ use Rattle.model.specs.Contact.{hears, rounds}
 use Rattle.model.proofs.Tables.{same_everywhere}
 use Rattle.model.proofs.Contact.{spread_at, rounds_all_of, rounds_rest, rounds_stay}
 use Rattle.contact.specs.declared.marking.Marking.{Marking}
-use Rattle.contact.specs.Marking.{is_marked, is_relay, is_heard, is_near, IsAfter, Round}
+use Rattle.contact.specs.Marking.{is_marked, is_relay, is_heard, is_near, is_taken, IsAfter, Round}
 
 -- The carrier at index i is marked after k rounds, and in contact with p.
 abbrev pub relays : Site → List ℕ → ℕ → ℕ → ℕ → Bool
@@ -22,12 +22,12 @@ relays s c k i p = get_or (rounds k s c) i false && s.in_contact (get_or c i 0) 
 abbrev pub reaches : Site → List ℕ → ℕ → ℕ → Bool
 reaches s c k p = s.in_contact s.base p || hears s c (rounds k s c) p
 
--- A round, as far as the first k carriers: no mark is lost, only places that are near are marked, and those of the first k carriers
--- that are near are.
+-- A round, as far as the first k carriers: no mark is lost, only places that are near and have a carrier are marked, and those of the
+-- first k carriers that are near are.
 pub record Pass {S : Type 0} (meaning : S → Site) (m : Marking S) (marks : List Bool) (k : ℕ) : Type 0 where
   pub sized : length marks ≡ most_places
   pub kept : (p : ℕ) → is_marked m p ≡ true → get_or marks p false ≡ true
-  pub only : (p : ℕ) → get_or marks p false ≡ true → (is_marked m p || is_near meaning m p) ≡ true
+  pub only : (p : ℕ) → get_or marks p false ≡ true → (is_marked m p || (is_taken m p && is_near meaning m p)) ≡ true
   pub done : (i : ℕ) → i < k → get_or m.configuration.now i 0 < length marks → is_near meaning m (get_or m.configuration.now i 0) ≡ true → get_or marks (get_or m.configuration.now i 0) false ≡ true
 
 -- Two functions agree on a list if they agree at each of its elements.

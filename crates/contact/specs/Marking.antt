@@ -1,5 +1,5 @@
 -- Which places are marked, and how marks spread over a configuration.
-use Rattle.std.specs.Prelude.{◌≡◌, ℕ, ◌<◌, Bool, true, false, ◌&&◌, ◌||◌, List, map, length, Option, Some, None, ◌≢◌, slice_index, slice_index_or}
+use Rattle.std.specs.Prelude.{◌≡◌, ℕ, ◌<◌, Bool, true, false, ◌&&◌, ◌||◌, List, map, length, Option, Some, None, ◌==◌, ◌≢◌, slice_index, slice_index_or}
 use Rattle.std.specs.List.{list_any}
 use Rattle.model.specs.Site.{Site}
 use Rattle.model.specs.Contact.{rounds}
@@ -25,19 +25,23 @@ is_heard meaning m p = list_any (λ q. is_relay meaning m q p) m.configuration.n
 abbrev pub is_near : {S : Type 0} → (S → Site) → Marking S → ℕ → Bool
 is_near meaning m p = (meaning m.site.now).in_contact (meaning m.site.now).base p || is_heard meaning m p
 
+-- A carrier stands at the place p.
+abbrev pub is_taken : {S : Type 0} → Marking S → ℕ → Bool
+is_taken m p = list_any (λ q. q == p) m.configuration.now
+
 -- The marking after k rounds, at this site and over this configuration.
 pub record IsAfter {S : Type 0} (meaning : S → Site) (site : S) (configuration : List ℕ) (k : ℕ) (m : Marking S) : Type 0 where
   pub site_is : m.site.now ≡ site
   pub configuration_is : m.configuration.now ≡ configuration
   pub marked : carriers_marked m ≡ rounds k (meaning site) configuration
 
--- One round more, at the same site and over the same configuration: no mark is lost, only places that are near are marked besides, and
--- the places of carriers that are near are marked.
+-- One round more, at the same site and over the same configuration: no mark is lost, and of the other places those are marked that are
+-- near and have a carrier.
 pub record Round {S : Type 0} (meaning : S → Site) (before after : Marking S) : Type 0 where
   pub site_is : after.site.now ≡ before.site.now
   pub configuration_is : after.configuration.now ≡ before.configuration.now
   pub kept : (p : ℕ) → is_marked before p ≡ true → is_marked after p ≡ true
-  pub only : (p : ℕ) → is_marked after p ≡ true → (is_marked before p || is_near meaning before p) ≡ true
+  pub only : (p : ℕ) → is_marked after p ≡ true → (is_marked before p || (is_taken before p && is_near meaning before p)) ≡ true
   pub done : (i : ℕ) → i < length before.configuration.now → is_near meaning before (slice_index before.configuration.now i) ≡ true
       → is_marked after (slice_index before.configuration.now i) ≡ true
 

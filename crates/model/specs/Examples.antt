@@ -47,7 +47,8 @@ pub data Question : Type 0 where
   one_turn : ℕ → ℕ → Task → Question
 
 -- What is replied: how it looks or, where it is unfit, the number of the refusal, the carrier that it names, if it names one, and that
--- carrier in numbers, turns, nodes and floor; the answers; the items; the path, if there is one; the refusal, if there is one; the pairs; the conditions.
+-- carrier in numbers, turns, nodes and floor; the answers; the items; the path, if there is one; the refusal, if there is one; the
+-- pairs; the conditions.
 pub data Reply : Type 0 where
   looks : Look → Reply
   fails : ℕ → Option ℕ → ℕ → ℕ → ℕ → ℕ → Reply
