@@ -1,6 +1,7 @@
 -- Marks on places, and how they spread.
-use Rattle.std.proofs.Common.{◌≡◌, ℕ, suc, ◌+◌, ◌<◌, ◌≤◌, Bool, true, false, ◌&&◌, ◌||◌, List, [], ◌∷◌, map, length, get_or, replicate, is_some, Some, None, subst, sym, refl, ap, ◌∙◌, ⊎_elim, add-one, arith}
+use Rattle.std.proofs.Common.{◌≡◌, ℕ, zero, suc, ◌==◌, ◌+◌, ◌<◌, ◌≤◌, Bool, true, false, ◌&&◌, ◌||◌, List, [], ◌∷◌, map, length, get_or, replicate, is_some, Some, None, subst, sym, refl, ap, ◌∙◌, ⊎_elim, add-one, arith}
 use Rattle.std.proofs.lemmas.Bool.{and_parts, cases_lt, or_cases}
+use Rattle.std.proofs.lemmas.Bool.Decides.{nat_tests}
 use Rattle.std.proofs.lemmas.Grind.{common_steps}
 use Rattle.std.proofs.lemmas.List.{get_or-map}
 use Rattle.std.proofs.lemmas.List.Folds.{Any-from_list_any}
@@ -39,6 +40,12 @@ map_same f g (x ∷ xs) same = cc (same 0 (omega arith), map_same f g xs (λ i l
 any_found : {X : Type 0} (test : X → Bool) (xs : List X) → list_any test xs ≡ is_some (position test xs)
 any_found test [] = refl
 any_found test (x ∷ xs) = grind (arith, common_steps, any_found test xs)
+
+-- A carrier stands where it stands.
+pub taken_there : (c : List ℕ) (i : ℕ) → i < length c → list_any (λ q. q == get_or c i 0) c ≡ true
+taken_there [] i l = absurd (omega arith)
+taken_there (q ∷ c) zero l = grind (arith, nat_tests)
+taken_there (q ∷ c) (suc i) l = grind (arith, taken_there c i)
 
 -- Before the first round nobody is marked.
 pub none_marked : (c : List ℕ) → map (λ p. get_or (replicate most_places false) p false) c ≡ replicate (length c) false
