@@ -1,5 +1,5 @@
 -- Marks on places, and how they spread.
-use Rattle.std.proofs.Common.{◌≡◌, ℕ, zero, suc, ◌==◌, ◌+◌, ◌<◌, ◌≤◌, Bool, true, false, ◌&&◌, ◌||◌, List, [], ◌∷◌, map, length, get_or, replicate, is_some, Some, None, subst, sym, refl, ap, ◌∙◌, ⊎_elim, add-one, arith}
+use Rattle.std.proofs.Common.{◌≡◌, ℕ, zero, suc, ◌==◌, ◌+◌, ◌<◌, ◌≤◌, Bool, true, false, ◌&&◌, ◌||◌, List, [], ◌∷◌, map, length, get_or, ◌≢◌, replicate, is_some, Some, None, subst, sym, refl, ap, ◌∙◌, ⊎_elim, add-one, arith}
 use Rattle.std.proofs.lemmas.Bool.{and_parts, cases_lt, or_cases}
 use Rattle.std.proofs.lemmas.Bool.Decides.{nat_tests}
 use Rattle.std.proofs.lemmas.Grind.{common_steps}
@@ -13,7 +13,7 @@ use Rattle.model.specs.Contact.{hears, rounds}
 use Rattle.model.proofs.Tables.{same_everywhere}
 use Rattle.model.proofs.Contact.{spread_at, rounds_all_of, rounds_rest, rounds_stay}
 use Rattle.contact.specs.declared.marking.Marking.{Marking}
-use Rattle.contact.specs.Marking.{is_marked, is_relay, is_heard, is_near, is_taken, IsAfter, Round}
+use Rattle.contact.specs.Marking.{is_marked, is_relay, is_heard, is_near, is_taken, IsAfter, Round, Spreads}
 
 -- The carrier at index i is marked after k rounds, and in contact with p.
 abbrev pub relays : Site → List ℕ → ℕ → ℕ → ℕ → Bool
@@ -84,6 +84,22 @@ module _ {S : Type 0} (meaning : S → Site) (m : Marking S) where
   -- Where it marks nothing more, the round is made already.
   pub round_at_rest : Lawful (meaning m.site.now) → (marks : List Bool) (n : ℕ) → length m.configuration.now ≤ n → Pass meaning m marks n → marks ≡ m.marks → Round meaning m m
   round_at_rest lawful marks n all pass still = subst (λ ms. Round meaning m (record m { marks = ms })) still (round_of lawful marks n all pass)
+
+  -- What a pass over all carriers makes, where it has marked a place more, and where it has not.
+  pub spread_more : Lawful (meaning m.site.now) → (marks : List Bool) (n : ℕ) → length m.configuration.now ≤ n → Pass meaning m marks n → marks ≢ m.marks
+      → (more : Bool) → more ≡ true → Spreads meaning m (record m { marks = marks }) more
+  spread_more lawful marks n all pass grown true e = (round_of lawful marks n all pass, grown)
+  spread_more lawful marks n all pass grown false e = absurd (cc)
+
+  pub spread_rest : Lawful (meaning m.site.now) → (marks : List Bool) (n : ℕ) → length m.configuration.now ≤ n → Pass meaning m marks n → marks ≡ m.marks
+      → (more : Bool) → more ≡ false → Spreads meaning m m more
+  spread_rest lawful marks n all pass still true e = absurd (cc)
+  spread_rest lawful marks n all pass still false e = (round_at_rest lawful marks n all pass still, refl)
+
+-- Whether it marks a place more or not, a round is made.
+pub round_made : {S : Type 0} (meaning : S → Site) (before after : Marking S) (more : Bool) → Spreads meaning before after more → Round meaning before after
+round_made meaning before after true spread = spread.0
+round_made meaning before after false spread = subst (Round meaning before) (sym spread.1) spread.0
 
 module _ {S : Type 0} (meaning : S → Site) (site : S) (c : List ℕ) (k : ℕ) (m : Marking S) (after : IsAfter meaning site c k m) where
   -- A carrier stands at a marked place if it is marked after that many rounds.

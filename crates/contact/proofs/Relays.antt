@@ -1,5 +1,5 @@
 -- The last relay of a carrier.
-use Rattle.std.proofs.Common.{◌≡◌, ℕ, zero, suc, ◌+◌, ◌<◌, ◌≤◌, true, false, List, length, get_or, Some, None, Option, sym, ◌∙◌, subst, add-one, arith}
+use Rattle.std.proofs.Common.{◌≡◌, ℕ, zero, suc, ◌+◌, ◌-◌, ◌<◌, ◌≤◌, true, false, List, length, get_or, Some, None, Option, sym, ◌∙◌, subst, add-one, arith}
 use Rattle.std.proofs.lemmas.Bool.{and_from, and_parts, both_ways}
 use Rattle.std.proofs.lemmas.Option.{slice_get_within, get_or_from_slice_get}
 use Rattle.std.specs.List.{position}
@@ -36,10 +36,14 @@ module _ (s : Site) (c : List ℕ) (i p : ℕ) (inside : i < length c) (at : get
   not_reached : hears s c (rounds (length c) s c) p ≡ false → Reached s c i → ⊥
   not_reached silent r = unmarked_next (length c) silent (subst (λ all. Marked all i) (rounds_rest s c) ((marked_iff_reached s c i).1 r))
 
--- By a carrier's number: what holds at the index of whoever stands there.
-by_number : (s : Site) (c : List ℕ) (n p : ℕ) (r : Option Relay) → find_place c n ≡ Some p → ((i : ℕ) → i < length c → get_or c i 0 ≡ p → RelayedBy s c i r) → RelayOf s c n r
-by_number s c zero p r some h = absurd (cc)
-by_number s c (suc i) p r some h = h i (slice_get_within c i p some) (get_or_from_slice_get c i p 0 some)
+-- By a carrier's number: what holds at its index, and what holds at the index of whoever stands at its place.
+pub by_number : (s : Site) (c : List ℕ) (k : ℕ) (r : Option Relay) → 1 ≤ k → RelayedBy s c (k - 1) r → RelayOf s c k r
+by_number s c zero r some h = absurd (omega arith)
+by_number s c (suc i) r some h = let index : suc i - 1 ≡ i = omega arith in subst (λ j. RelayedBy s c j r) index h
+
+by_place : (s : Site) (c : List ℕ) (n p : ℕ) (r : Option Relay) → find_place c n ≡ Some p → ((i : ℕ) → i < length c → get_or c i 0 ≡ p → RelayedBy s c i r) → RelayOf s c n r
+by_place s c zero p r some h = absurd (cc)
+by_place s c (suc i) p r some h = h i (slice_get_within c i p some) (get_or_from_slice_get c i p 0 some)
 
 module _ {S : Type 0} (meaning : S → Site) (site : S) (c : List ℕ) (n p : ℕ) (some : find_place c n ≡ Some p) (apart : (meaning site).in_contact (meaning site).base p ≡ false) where
   -- The first that is heard, where nobody was a round before.
@@ -47,8 +51,8 @@ module _ {S : Type 0} (meaning : S → Site) (site : S) (c : List ℕ) (n p : �
       → (j : ℕ) → Some j ≡ position (λ q. is_relay meaning after q p) after.configuration.now → RelayOf (meaning site) c n (Some (Carrier (j + 1)))
   relayed_by k before after was silent is j found =
       let (here, lower) = first_relay meaning site c (suc k) after (rw add-one at is) p j found in
-      rw add-one (by_number (meaning site) c n p (Some (Carrier (suc j))) some (λ i inside at. (inside, last_relay (meaning site) c i p inside at apart k j (sym (heard_after meaning site c k before was p) ∙ silent) here lower)))
+      rw add-one (by_place (meaning site) c n p (Some (Carrier (suc j))) some (λ i inside at. (inside, last_relay (meaning site) c i p inside at apart k j (sym (heard_after meaning site c k before was p) ∙ silent) here lower)))
 
   -- Nobody, where nobody is heard after all rounds.
   pub not_relayed : (m : Marking S) → IsAfter meaning site c (length c) m → is_heard meaning m p ≡ false → RelayOf (meaning site) c n None
-  not_relayed m after silent = by_number (meaning site) c n p None some (λ i inside at. not_reached (meaning site) c i p inside at apart (sym (heard_after meaning site c (length c) m after p) ∙ silent))
+  not_relayed m after silent = by_place (meaning site) c n p None some (λ i inside at. not_reached (meaning site) c i p inside at apart (sym (heard_after meaning site c (length c) m after p) ∙ silent))

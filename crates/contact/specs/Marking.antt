@@ -1,5 +1,5 @@
 -- Which places are marked, and how marks spread over a configuration.
-use Rattle.std.specs.Prelude.{◌≡◌, ℕ, ◌<◌, Bool, true, false, ◌&&◌, ◌||◌, List, map, length, Option, Some, None, ◌==◌, ◌≢◌, slice_index, slice_index_or}
+use Rattle.std.specs.Prelude.{◌≡◌, ℕ, ◌<◌, Bool, true, false, ◌&&◌, ◌||◌, List, map, length, ◌==◌, ◌≢◌, slice_index, slice_index_or}
 use Rattle.std.specs.List.{list_any}
 use Rattle.model.specs.Site.{Site}
 use Rattle.model.specs.Contact.{rounds}
@@ -45,7 +45,7 @@ pub record Round {S : Type 0} (meaning : S → Site) (before after : Marking S) 
   pub done : (i : ℕ) → i < length before.configuration.now → is_near meaning before (slice_index before.configuration.now i) ≡ true
       → is_marked after (slice_index before.configuration.now i) ≡ true
 
--- What is answered to a round: the marking that it leads to or, where that has no mark more, nothing.
-abbrev pub Spreads : {S : Type 0} → (S → Site) → Marking S → Option (Marking S) → Type 0
-Spreads meaning m (Some next) = Round meaning m next × (next.marks ≢ m.marks)
-Spreads meaning m None = Round meaning m m
+-- What a round makes of a marking, and whether it marks a place more. Where it marks none, the marking stays as it is.
+abbrev pub Spreads : {S : Type 0} → (S → Site) → Marking S → Marking S → Bool → Type 0
+Spreads meaning before after true = Round meaning before after × (after.marks ≢ before.marks)
+Spreads meaning before after false = Round meaning before before × (after ≡ before)

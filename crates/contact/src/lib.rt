@@ -29,15 +29,18 @@ pub fn is_reached<S: Site>(site: &S, configuration: &[usize], carrier: usize) ->
     let Some(place) = find_place(configuration, carrier) else {
         return false;
     };
-    Marking::reached(site, configuration).is_marked(place)
+    let mut marking = Marking::new(site, configuration);
+    marking.spread_fully();
+    marking.is_marked(place)
 }
 
 /// The lost carrier: the lowest-numbered one that is not reached from the base, straight or through the others.
 pub fn lost_carrier<S: Site>(site: &S, configuration: &[usize]) -> Option<usize>
     ensures { result ≡ lost (S.Site.meaning site.now) configuration.now }
 {
-    let reached = Marking::reached(site, configuration);
-    reached.first_unmarked().map(|i| i + 1)
+    let mut marking = Marking::new(site, configuration);
+    marking.spread_fully();
+    marking.first_unmarked().map(|i| i + 1)
 }
 
 /// Is the configuration in contact: is every carrier reached?
@@ -57,9 +60,11 @@ pub fn relay_of<S: Site>(site: &S, configuration: &[usize], carrier: usize) -> O
         return Some(Relay::Base);
     }
     let mut marking = Marking::new(site, configuration);
-    // As many rounds as there are carriers are enough. A `while let` would need a measure, and a clause of `spread` for it.
+    // As many rounds as there are carriers are enough. A `while` would need a measure, and a clause of `spread` for it.
     for _round in 0..configuration.len() {
-        marking = marking.spread()?;
+        if !marking.spread() {
+            break;
+        }
         if let Some(i) = marking.first_heard(place) {
             return Some(Relay::Carrier(i + 1));
         }

@@ -29,24 +29,11 @@ impl<'a, S: Site> Marking<'a, S> {
         }
     }
 
-    /// The marking after all rounds: of the carriers' places, those of the carriers that are reached are marked.
-    pub(crate) fn reached(site: &'a S, configuration: &'a [usize]) -> Self
-        ensures { IsAfter S.Site.meaning site.now configuration.now (length configuration.now) result }
-    {
-        let mut marking = Self::new(site, configuration);
-        // As many rounds as there are carriers are enough. A `while let` would need a measure, and a clause of `spread` for it.
-        for _round in 0..configuration.len() {
-            let Some(next) = marking.spread() else { break };
-            marking = next;
-        }
-        marking
-    }
-
     /// Is p marked?
     pub(crate) fn is_marked(&self, p: usize) -> bool
         ensures { result ≡ is_marked self.now p }
     {
-        self.marks.get(p) == Some(&true)
+        matches!(self.marks.get(p), Some(true))
     }
 
     /// Is q marked, and in contact with p?
@@ -70,20 +57,35 @@ impl<'a, S: Site> Marking<'a, S> {
         self.site.in_contact(self.site.base(), p) || self.is_heard(p)
     }
 
-    /// The marking one round later: the carriers' places that are near in this one are marked too. None if they all are already.
-    pub(crate) fn spread(&self) -> Option<Self>
-        ensures { Spreads S.Site.meaning self.now result }
+    /// One round: marks the carriers' places that were near as it began, and answers whether any of them was not marked before.
+    // A flag, and no Option of a new marking: to copy the marks out of each round took up to twice the time with few carriers.
+    pub(crate) fn spread(&mut self) -> bool
+        ensures { Spreads S.Site.meaning self.old self.new result }
     {
         let mut marks = self.marks;
+        let mut has_more = false;
         for &p in self.configuration {
-            if marks.get(p) == Some(&false) && self.is_near(p) {
+            if matches!(marks.get(p), Some(false)) && self.is_near(p) {
                 marks[p] = true;
+                has_more = true;
             }
         }
-        if marks == self.marks {
-            None
-        } else {
-            Some(Marking { marks, ..*self })
+        if has_more {
+            self.marks = marks;
+        }
+        has_more
+    }
+
+    /// All rounds, from the marking before the first one: of the carriers' places, those of the carriers that are reached are marked.
+    pub(crate) fn spread_fully(&mut self)
+        requires { IsAfter S.Site.meaning self.old.site.now self.old.configuration.now 0 self.old }
+        ensures { IsAfter S.Site.meaning self.old.site.now self.old.configuration.now (length self.old.configuration.now) self.new }
+    {
+        // As many rounds as there are carriers are enough. A `while` would need a measure, and a clause of `spread` for it.
+        for _round in 0..self.configuration.len() {
+            if !self.spread() {
+                break;
+            }
         }
     }
 

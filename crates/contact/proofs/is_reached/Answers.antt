@@ -6,6 +6,4 @@ pub returns-in_default : goal.returns-in_default
 returns-in_default g c = sym (no_carrier (g.S.Site.meaning c.args.site.now) c.args.configuration.now c.args.carrier (search rules))
 
 pub returns : goal.returns
-returns g c =
-    c.is_marked.ensures
-    ∙ reached_is g.S.Site.meaning c.args.site.now c.args.configuration.now c.reached.result c.reached.ensures c.args.carrier c.in-Some.place (search rules)
+returns g c = c.is_marked.ensures ∙ search (rules, reached_is g.S.Site.meaning c.args.site.now c.args.configuration.now)

@@ -1,8 +1,9 @@
-use Rattle.std.proofs.Common.{rules}
+use Rattle.std.proofs.Common.{◌≡◌, ◌+◌, ◌∙◌, rules}
+use Rattle.std.specs.Option.{option_map}
 use Rattle.contact.proofs.Carriers.{lost_is}
 use Rattle.contact.proofs.lost_carrier.Goals as goal
 
 pub returns : goal.returns
 returns g c =
-    let lost = lost_is g.S.Site.meaning c.args.site.now c.args.configuration.now c.reached-reached.result c.reached-reached.ensures c.first_unmarked.result c.first_unmarked.ensures in
-    search (rules, lost)
+    let number : c.map.result ≡ option_map (λ i. i + 1) c.first_unmarked.result = search rules in
+    number ∙ search (rules, lost_is g.S.Site.meaning c.args.site.now c.args.configuration.now)
