@@ -1,12 +1,12 @@
 -- The checks find nothing exactly where all is fit, and name the lowest carrier whose start or goal is closed.
-use Rattle.std.proofs.Common.{◌≡◌, ℕ, suc, ◌+◌, ◌<◌, ◌≤◌, true, false, ◌&&◌, ◌↔◌, List, [], ◌∷◌, length, slice_index, Some, None, Option, ap, ◌∙◌, ⊎_elim, arith}
+use Rattle.std.proofs.Common.{◌≡◌, ℕ, Bool, suc, ◌+◌, ◌<◌, ◌≤◌, true, false, ◌&&◌, ◌↔◌, List, [], ◌∷◌, length, slice_index, Some, None, Option, ap, ◌∙◌, ⊎_elim, arith}
 use Rattle.std.proofs.lemmas.Bool.Decides.{nat_tests}
 use Rattle.std.proofs.lemmas.Bool.{cases_Bool}
 use Rattle.model.specs.declared.outcome.Unfitness.{Unfitness}
 use Rattle.model.specs.declared.refusal.Refusal.{Refusal}
 use Rattle.model.specs.declared.refusal.Refusal.TheVariants.{StartOrGoalClosed, StartsOutOfContact, GoalsOutOfContact}
 use Rattle.model.specs.Contact.{Connected, lost}
-use Rattle.model.specs.Fitness.{first_of, check_list, check_crew, check_horizon, check_places, check_contact, unfitness, Fit, FitnessIsChecked}
+use Rattle.model.specs.Fitness.{first_of, required, check_list, check_crew, check_horizon, check_places, check_contact, unfitness, Fit, FitnessIsChecked}
 use Rattle.model.specs.Limits.{most_carriers, most_nodes, most_steps}
 use Rattle.model.specs.Plan.{Task, IsPlan}
 use Rattle.model.specs.Rule.{AtOpenPlaces}
@@ -15,6 +15,12 @@ use Rattle.model.proofs.Contact.{connected_is_contact}
 use Rattle.model.proofs.Tables.{from_first}
 
 -- A check finds nothing exactly if what it tests holds, and the checks in a row if each finds nothing.
+passes : (test : Bool) (r : Refusal) (carrier : Option ℕ) → (required test r carrier ≡ None) ↔ (test ≡ true)
+passes test r carrier = grind arith
+
+both_pass : (a b : Option Unfitness) → (first_of a b ≡ None) ↔ ((a ≡ None) × (b ≡ None))
+both_pass a b = grind arith
+
 all_pass : (a b c d e f : Option Unfitness) → (first_of a (first_of b (first_of c (first_of d (first_of e f)))) ≡ None) ↔ ((a ≡ None) × (b ≡ None) × (c ≡ None) × (d ≡ None) × (e ≡ None) × (f ≡ None))
 all_pass a b c d e f = grind arith
 

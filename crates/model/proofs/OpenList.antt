@@ -1,16 +1,26 @@
 -- The open list: what is put stands at its place, nothing else is added, and nothing is lost.
-use Rattle.std.proofs.Common.{◌≡◌, ℕ, suc, ◌<◌, ◌≤◌, true, ◌⊎◌, List, [], ◌∷◌, length, refl, ◌∙◌, arith}
+use Rattle.std.proofs.Common.{◌≡◌, ℕ, suc, ◌<◌, ◌≤◌, true, ◌⊎◌, List, [], ◌∷◌, length, false, None, refl, ◌∙◌, arith}
 use mathlib.Core.List.Memᴰ
 use mathlib.Core.List.{Memᴰ}
 use Rattle.std.proofs.lemmas.Bool.{cond_both}
 use Rattle.std.proofs.lemmas.Bool.Decides.{nat_tests}
 use Rattle.model.specs.Limits.{most_steps}
-use Rattle.model.specs.OpenList.{Pair, Before, precedes, insert, put, InOrder, times, OpenListsKeepOrder}
+use Rattle.model.specs.OpenList.{Pair, Before, precedes, insert, put_refusal, put, InOrder, times, OpenListsKeepOrder}
 
 -- The order of pairs.
 
 precedes_before : (a b : Pair) → precedes a b ≡ true → Before a b
 precedes_before a b e = grind (arith, nat_tests)
+
+-- Of two pairs that one which does not precede stands behind; a pair may stand before itself, and before all behind which it may.
+before_or : (a b : Pair) → precedes a b ≡ false → Before b a
+before_or a b e = grind (arith, nat_tests)
+
+before_itself : (a : Pair) → Before a a
+before_itself a = grind arith
+
+before_on : (a b c : Pair) → Before a b → Before b c → Before a c
+before_on a b c e f = grind arith
 
 pub before_costs : (a b : Pair) → Before a b → a.0 ≤ b.0
 before_costs a b e = grind arith
@@ -45,8 +55,11 @@ insert_in_order a (b ∷ bs) o = cond_both (precedes a b) (a ∷ b ∷ bs) (b �
 pub put_in_order : (room : ℕ) (a : Pair) (ps : List Pair) → InOrder ps → InOrder (put room a ps)
 put_in_order room a ps o = grind (arith, insert_in_order a ps o)
 
+not_refused : (cost size room : ℕ) → cost ≤ most_steps → size < room → put_refusal cost size room ≡ None
+not_refused cost size room cheap fits = grind (arith, nat_tests)
+
 pub put_inserts : (room : ℕ) (a : Pair) (ps : List Pair) → a.0 ≤ most_steps → length ps < room → put room a ps ≡ insert a ps
-put_inserts room a ps cheap fits = grind (arith, nat_tests)
+put_inserts room a ps cheap fits = grind (arith, not_refused a.0 (length ps) room cheap fits)
 
 -- How often a pair is in a list.
 

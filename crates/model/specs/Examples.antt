@@ -14,7 +14,7 @@ use Rattle.model.specs.declared.outcome.Outcome.TheVariants.{Running, Found, NoP
 use Rattle.model.specs.declared.refusal.Refusal.{Refusal}
 use Rattle.model.specs.declared.refusal.Refusal.TheVariants.{TurnsOutOfRange, NoSuchCarrierOrMoment, CostTooHigh, HasStopped, NotFound, ListFull}
 use Rattle.model.specs.Begin.{begin}
-use Rattle.model.specs.Calls.{look_of, number_in, carrier_in}
+use Rattle.model.specs.Calls.{look_of, steps_in, number_in, carrier_in}
 use Rattle.model.specs.Chosen.{chosen}
 use Rattle.model.specs.Item.{at_time}
 use Rattle.model.specs.Nodes.{root, child, conditions_of}
@@ -46,12 +46,12 @@ pub data Question : Type 0 where
   conditions_at : List Node → ℕ → Question
   one_turn : ℕ → ℕ → Task → Question
 
--- What is replied: how it looks or, where it is unfit, the number of the refusal, the carrier that it names, if it names one, and that
--- carrier in numbers, turns, nodes and floor; the answers; the items; the path, if there is one; the refusal, if there is one; the
--- pairs; the conditions.
+-- What is replied: how it looks, and its outcome in numbers, or, where it is unfit, the carrier that is named, if one is, the outcome in
+-- numbers, turns, nodes and floor; the answers; the items; the path, if there is one; the refusal, if there is one; the pairs; the
+-- conditions.
 pub data Reply : Type 0 where
-  looks : Look → Reply
-  fails : ℕ → Option ℕ → ℕ → ℕ → ℕ → ℕ → Reply
+  looks : Look → ℕ × ℕ × ℕ → Reply
+  fails : Option ℕ → ℕ × ℕ × ℕ → ℕ → ℕ → ℕ → Reply
   answers : List (Result Answer Refusal) → Reply
   lists : List Item → Reply
   walks : Option TimedPath → Reply
@@ -99,13 +99,17 @@ put_all (a ∷ ps) = put 4096 a (put_all ps)
 abbrev pub nodes_made : ℕ → ℕ → State
 nodes_made n cost = record { nodes = replicate n (root cost); pairs = (cost, 0) ∷ []; room = 4096; outcome = Running; turns = 0; floor = 0; last = 0 }
 
--- How it looks: what is unfit is seen in numbers.
+-- An outcome in numbers: the steps, the number of the refusal, and the carrier.
+abbrev pub in_numbers : Outcome → ℕ × ℕ × ℕ
+in_numbers o = (steps_in o, number_in o, carrier_in o)
+
+-- How it looks, and its outcome in numbers: what is unfit is seen in numbers alone.
 abbrev pub seen_as : Outcome → Look → Reply
-seen_as Running l = looks l
-seen_as (Found n) l = looks l
-seen_as NoPlan l = looks l
-seen_as Full l = looks l
-seen_as (Unfit u) l = fails (number_in (Unfit u)) u.carrier (carrier_in (Unfit u)) l.turns l.nodes l.floor
+seen_as Running l = looks l (in_numbers Running)
+seen_as (Found n) l = looks l (in_numbers (Found n))
+seen_as NoPlan l = looks l (in_numbers NoPlan)
+seen_as Full l = looks l (in_numbers Full)
+seen_as (Unfit u) l = fails u.carrier (in_numbers (Unfit u)) l.turns l.nodes l.floor
 
 abbrev pub seen : Look → Reply
 seen l = seen_as l.outcome l
@@ -134,13 +138,13 @@ reply_to (one_turn n cost t) =
 abbrev pub look_at : Outcome → ℕ → ℕ → ℕ → Look
 look_at o turns nodes floor = record { outcome = o; turns = turns; nodes = nodes; floor = floor }
 
--- It is fit: outcome, turns, nodes, floor.
-abbrev pub stands : Outcome → ℕ → ℕ → ℕ → Reply
-stands o turns nodes floor = looks (look_at o turns nodes floor)
+-- It is fit: outcome, steps in numbers, turns, nodes, floor. The number of a refusal and the carrier are 0.
+abbrev pub stands : Outcome → ℕ → ℕ → ℕ → ℕ → Reply
+stands o steps turns nodes floor = looks (look_at o turns nodes floor) (steps, 0, 0)
 
 -- It is unfit: the number of the refusal, and the carrier that it names, or nobody, which in numbers is 0. Nothing has been done.
 abbrev pub unfit : ℕ → Option ℕ → Reply
-unfit number carrier = fails number carrier (unwrap_or carrier 0) 0 0 0
+unfit number carrier = fails carrier (0, number, unwrap_or carrier 0) 0 0 0
 
 -- A carrier must be at a place, or must not be there.
 abbrev pub at : ℕ → ℕ → Item
@@ -168,8 +172,8 @@ walk places arrival = walks (Some (record { places = places; arrival = arrival }
 abbrev pub examples : List (Question × Reply)
 examples =
     -- both rules find two steps; Three-way makes one node more
-    (planned_by yields galleries (across 4), stands (Found 2) 2 3 2) ∷
-    (planned_by three_way galleries (across 4), stands (Found 2) 2 4 2) ∷
+    (planned_by yields galleries (across 4), stands (Found 2) 2 2 3 2) ∷
+    (planned_by three_way galleries (across 4), stands (Found 2) 2 2 4 2) ∷
     -- (2, 5) is out of contact; (1, 4) is not
     (items_at three_way galleries (2 ∷ 5 ∷ []), lists (at 1 0 ∷ at 1 3 ∷ at 1 4 ∷ at 1 5 ∷ at 2 2 ∷ at 2 4 ∷ not_at 1 2 ∷ not_at 2 5 ∷ [])) ∷
     (items_at yields galleries (2 ∷ 5 ∷ []), lists (not_at 1 2 ∷ not_at 2 5 ∷ [])) ∷
@@ -181,32 +185,32 @@ examples =
       keeps (then_not_at 2 5 2 ∷ then_at 1 2 1 ∷ []),
     ) ∷
     -- three children: all of them where the table has room, and else as many as it has room for
-    (one_turn 4093 2 (across 4), stands Running 1 4096 2) ∷
-    (one_turn 4094 2 (across 4), stands Full 1 4096 2) ∷
-    (one_turn 4096 2 (across 4), stands Full 1 4096 2) ∷
+    (one_turn 4093 2 (across 4), stands Running 0 1 4096 2) ∷
+    (one_turn 4094 2 (across 4), stands Full 0 1 4096 2) ∷
+    (one_turn 4096 2 (across 4), stands Full 0 1 4096 2) ∷
     -- out of contact in the last moment only: not found
-    (one_turn 1 1 (task (1 ∷ 4 ∷ []) (2 ∷ 5 ∷ []) 1), stands Running 1 1 1) ∷
+    (one_turn 1 1 (task (1 ∷ 4 ∷ []) (2 ∷ 5 ∷ []) 1), stands Running 0 1 1 1) ∷
     -- without the contact of 2 and 4, by horizons 2 and 3
-    (planned_by yields (site_with without_2_4 (pos 120)) (across 2), stands NoPlan 3 2 3) ∷
-    (planned_by three_way (site_with without_2_4 (pos 120)) (across 2), stands NoPlan 3 2 3) ∷
-    (planned_by yields (site_with without_2_4 (pos 120)) (across 3), stands NoPlan 8 7 4) ∷
-    (planned_by three_way (site_with without_2_4 (pos 120)) (across 3), stands NoPlan 12 11 4) ∷
+    (planned_by yields (site_with without_2_4 (pos 120)) (across 2), stands NoPlan 0 3 2 3) ∷
+    (planned_by three_way (site_with without_2_4 (pos 120)) (across 2), stands NoPlan 0 3 2 3) ∷
+    (planned_by yields (site_with without_2_4 (pos 120)) (across 3), stands NoPlan 0 8 7 4) ∷
+    (planned_by three_way (site_with without_2_4 (pos 120)) (across 3), stands NoPlan 0 12 11 4) ∷
     -- goals equal to starts
-    (planned_by yields galleries (task (1 ∷ 4 ∷ []) (1 ∷ 4 ∷ []) 0), stands (Found 0) 1 1 0) ∷
-    (planned_by three_way galleries (task (1 ∷ 4 ∷ []) (1 ∷ 4 ∷ []) 0), stands (Found 0) 1 1 0) ∷
+    (planned_by yields galleries (task (1 ∷ 4 ∷ []) (1 ∷ 4 ∷ []) 0), stands (Found 0) 0 1 1 0) ∷
+    (planned_by three_way galleries (task (1 ∷ 4 ∷ []) (1 ∷ 4 ∷ []) 0), stands (Found 0) 0 1 1 0) ∷
     -- readings at place 2 at the ends of what is mild
-    (planned_by yields (site_with all_contacts (pos 49)) (across 4), stands NoPlan 1 0 5) ∷
-    (planned_by three_way (site_with all_contacts (pos 49)) (across 4), stands NoPlan 1 0 5) ∷
-    (planned_by yields (site_with all_contacts (pos 301)) (across 4), stands NoPlan 1 0 5) ∷
-    (planned_by three_way (site_with all_contacts (pos 301)) (across 4), stands NoPlan 1 0 5) ∷
-    (planned_by yields (site_with all_contacts (pos 50)) (across 4), stands (Found 2) 2 3 2) ∷
-    (planned_by three_way (site_with all_contacts (pos 50)) (across 4), stands (Found 2) 2 4 2) ∷
-    (planned_by yields (site_with all_contacts (pos 300)) (across 4), stands (Found 2) 2 3 2) ∷
-    (planned_by three_way (site_with all_contacts (pos 300)) (across 4), stands (Found 2) 2 4 2) ∷
+    (planned_by yields (site_with all_contacts (pos 49)) (across 4), stands NoPlan 0 1 0 5) ∷
+    (planned_by three_way (site_with all_contacts (pos 49)) (across 4), stands NoPlan 0 1 0 5) ∷
+    (planned_by yields (site_with all_contacts (pos 301)) (across 4), stands NoPlan 0 1 0 5) ∷
+    (planned_by three_way (site_with all_contacts (pos 301)) (across 4), stands NoPlan 0 1 0 5) ∷
+    (planned_by yields (site_with all_contacts (pos 50)) (across 4), stands (Found 2) 2 2 3 2) ∷
+    (planned_by three_way (site_with all_contacts (pos 50)) (across 4), stands (Found 2) 2 2 4 2) ∷
+    (planned_by yields (site_with all_contacts (pos 300)) (across 4), stands (Found 2) 2 2 3 2) ∷
+    (planned_by three_way (site_with all_contacts (pos 300)) (across 4), stands (Found 2) 2 2 4 2) ∷
     -- goals and starts out of contact
     (planned_by yields galleries (task (1 ∷ 4 ∷ []) (2 ∷ 5 ∷ []) 4), unfit 12 (Some 1)) ∷
     (planned_by three_way galleries (task (1 ∷ 4 ∷ []) (2 ∷ 5 ∷ []) 4), unfit 12 (Some 1)) ∷
-    (planned_by three_way galleries (task (4 ∷ 2 ∷ 5 ∷ 3 ∷ []) (4 ∷ 2 ∷ 5 ∷ 3 ∷ []) 4), stands (Found 0) 1 1 0) ∷
+    (planned_by three_way galleries (task (4 ∷ 2 ∷ 5 ∷ 3 ∷ []) (4 ∷ 2 ∷ 5 ∷ 3 ∷ []) 4), stands (Found 0) 0 1 1 0) ∷
     (planned_by three_way galleries (task (5 ∷ 2 ∷ 1 ∷ []) (4 ∷ 2 ∷ 1 ∷ []) 4), unfit 11 (Some 2)) ∷
     -- a start or a goal that is closed: the lowest carrier is named
     (planned_by three_way galleries (task (4 ∷ 0 ∷ 0 ∷ []) (4 ∷ 4 ∷ 4 ∷ []) 4), unfit 10 (Some 2)) ∷
@@ -214,14 +218,14 @@ examples =
     -- carriers and horizons at their limits; the earlier check is answered
     (planned_by three_way galleries (task [] [] 4), unfit 8 None) ∷
     (planned_by three_way galleries (task (4 ∷ 4 ∷ []) (4 ∷ []) 4), unfit 8 None) ∷
-    (planned_by three_way galleries (task (replicate 8 4) (replicate 8 4) 64), stands (Found 0) 1 1 0) ∷
+    (planned_by three_way galleries (task (replicate 8 4) (replicate 8 4) 64), stands (Found 0) 0 1 1 0) ∷
     (planned_by three_way galleries (task (replicate 9 4) (replicate 9 4) 64), unfit 8 None) ∷
     (planned_by three_way galleries (task [] [] 65), unfit 8 None) ∷
     (planned_by three_way galleries (task (0 ∷ []) (0 ∷ []) 65), unfit 9 None) ∷
     (planned_by three_way galleries (task (2 ∷ 5 ∷ []) (0 ∷ 5 ∷ []) 4), unfit 10 (Some 1)) ∷
     (planned_by three_way galleries (task (5 ∷ 2 ∷ []) (2 ∷ 5 ∷ []) 4), unfit 11 (Some 2)) ∷
     -- open lists that are not empty, or too small
-    (begun_over [] 4096 (across 4), stands Running 0 1 0) ∷
+    (begun_over [] 4096 (across 4), stands Running 0 0 1 0) ∷
     (begun_over [] 4095 (task [] [] 65), unfit 21 None) ∷
     (begun_over ((0, 0) ∷ []) 4096 (across 4), unfit 21 None) ∷
     -- calls in a row, with those that are refused

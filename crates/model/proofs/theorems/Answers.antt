@@ -1,3 +1,4 @@
+use Rattle.std.proofs.Common.{refl}
 use Rattle.model.proofs.PairSites.{pair_sites_are_sites}
 use Rattle.model.proofs.Halls.{halls_are_sites}
 use Rattle.model.proofs.Contact.{contact_is_computed}
@@ -46,3 +47,6 @@ returns-clause-runs_keep_the_guarantee c = guaranteed
 
 pub returns-clause-no_put_is_refused : goal.returns-clause-no_put_is_refused
 returns-clause-no_put_is_refused c = no_put_is_refused
+
+pub returns-clause-examples_hold : goal.returns-clause-examples_hold
+returns-clause-examples_hold c = refl
