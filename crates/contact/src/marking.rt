@@ -58,7 +58,7 @@ impl<'a, S: Site> Marking<'a, S> {
     }
 
     /// One round: marks the carriers' places that were near as it began, and answers whether any of them was not marked before.
-    // A flag, and no Option of a new marking: to copy the marks out of each round took up to twice the time with few carriers.
+    // A flag, and no Option of a new marking: to copy the marks out of each round took up to twice the time, and six times with one carrier.
     pub(crate) fn spread(&mut self) -> bool
         ensures { Spreads S.Site.meaning self.old self.new result }
     {
