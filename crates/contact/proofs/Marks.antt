@@ -1,7 +1,6 @@
 -- Marks on places, and how they spread.
-use Rattle.std.proofs.Common.{◌≡◌, ℕ, zero, suc, ◌==◌, ◌+◌, ◌<◌, ◌≤◌, Bool, true, false, ◌&&◌, ◌||◌, List, [], ◌∷◌, map, length, get_or, ◌≢◌, replicate, is_some, Some, None, subst, sym, refl, ap, ◌∙◌, ⊎_elim, add-one, arith}
+use Rattle.std.proofs.Common.{◌≡◌, ℕ, suc, ◌+◌, ◌<◌, ◌≤◌, Bool, true, false, ◌&&◌, ◌||◌, List, [], ◌∷◌, map, length, get_or, replicate, is_some, Some, None, subst, sym, refl, ap, ◌∙◌, ⊎_elim, add-one, arith}
 use Rattle.std.proofs.lemmas.Bool.{and_parts, cases_lt, or_cases}
-use Rattle.std.proofs.lemmas.Bool.Decides.{nat_tests}
 use Rattle.std.proofs.lemmas.Grind.{common_steps}
 use Rattle.std.proofs.lemmas.List.{get_or-map}
 use Rattle.std.proofs.lemmas.List.Folds.{Any-from_list_any}
@@ -41,12 +40,6 @@ any_found : {X : Type 0} (test : X → Bool) (xs : List X) → list_any test xs 
 any_found test [] = refl
 any_found test (x ∷ xs) = grind (arith, common_steps, any_found test xs)
 
--- A carrier stands where it stands.
-pub taken_there : (c : List ℕ) (i : ℕ) → i < length c → list_any (λ q. q == get_or c i 0) c ≡ true
-taken_there [] i l = absurd (omega arith)
-taken_there (q ∷ c) zero l = grind (arith, nat_tests)
-taken_there (q ∷ c) (suc i) l = grind (arith, taken_there c i)
-
 -- Before the first round nobody is marked.
 pub none_marked : (c : List ℕ) → map (λ p. get_or (replicate most_places false) p false) c ≡ replicate (length c) false
 none_marked [] = refl
@@ -84,17 +77,6 @@ module _ {S : Type 0} (meaning : S → Site) (m : Marking S) where
   -- Where it marks nothing more, the round is made already.
   pub round_at_rest : Lawful (meaning m.site.now) → (marks : List Bool) (n : ℕ) → length m.configuration.now ≤ n → Pass meaning m marks n → marks ≡ m.marks → Round meaning m m
   round_at_rest lawful marks n all pass still = subst (λ ms. Round meaning m (record m { marks = ms })) still (round_of lawful marks n all pass)
-
-  -- What a pass over all carriers makes, where it has marked a place more, and where it has not.
-  pub spread_more : Lawful (meaning m.site.now) → (marks : List Bool) (n : ℕ) → length m.configuration.now ≤ n → Pass meaning m marks n → marks ≢ m.marks
-      → (more : Bool) → more ≡ true → Spreads meaning m (record m { marks = marks }) more
-  spread_more lawful marks n all pass grown true e = (round_of lawful marks n all pass, grown)
-  spread_more lawful marks n all pass grown false e = absurd (cc)
-
-  pub spread_rest : Lawful (meaning m.site.now) → (marks : List Bool) (n : ℕ) → length m.configuration.now ≤ n → Pass meaning m marks n → marks ≡ m.marks
-      → (more : Bool) → more ≡ false → Spreads meaning m m more
-  spread_rest lawful marks n all pass still true e = absurd (cc)
-  spread_rest lawful marks n all pass still false e = (round_at_rest lawful marks n all pass still, refl)
 
 -- Whether it marks a place more or not, a round is made.
 pub round_made : {S : Type 0} (meaning : S → Site) (before after : Marking S) (more : Bool) → Spreads meaning before after more → Round meaning before after
